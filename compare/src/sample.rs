@@ -1,0 +1,50 @@
+//! The sample of the original's answers that the gate replays where there is no Rust: a script, and the answers.
+
+use std::fs;
+use std::io::Result;
+use std::path::Path;
+use std::process::ExitCode;
+
+pub(crate) struct Section {
+    pub(crate) title: String,
+    /// Each question with its answer.
+    pub(crate) lines: Vec<(String, String)>,
+}
+
+/// Writes the files `stdin` and `stdout` of `folder`. `origin` is the original's repository and commit.
+pub(crate) fn write(folder: &str, origin: &str, sections: &[Section]) -> ExitCode {
+    let (script, answers) = texts(origin, sections);
+    match write_both(Path::new(folder), &script, &answers) {
+        Ok(()) => {
+            let count = answers.lines().count();
+            println!("{folder}/stdin and {folder}/stdout: {count} questions and answers");
+            ExitCode::SUCCESS
+        }
+        Err(error) => {
+            eprintln!("{folder}: {error}");
+            ExitCode::FAILURE
+        }
+    }
+}
+
+fn texts(origin: &str, sections: &[Section]) -> (String, String) {
+    let mut script = format!(
+        "# Made by compare/run --sample; the answers in the file stdout are the original Rust's, built unchanged from\n\
+         # {origin}, folder boringtun/src/noise/quic.\n\
+         # A panic of the Rust's size and write is written as refused 1, None of its read as refused 3.\n"
+    );
+    let mut answers = String::new();
+    for section in sections {
+        script += &format!("# {}\n", section.title);
+        for (question, answer) in &section.lines {
+            script += &format!("{question}\n");
+            answers += &format!("{answer}\n");
+        }
+    }
+    (script, answers)
+}
+
+fn write_both(folder: &Path, script: &str, answers: &str) -> Result<()> {
+    fs::write(folder.join("stdin"), script)?;
+    fs::write(folder.join("stdout"), answers)
+}

@@ -1,0 +1,30 @@
+//! The form that bytes have in the scripts of `crustdelta` and in its answers.
+
+use std::fmt::{Display, Formatter, Result};
+
+/// A trailing run of equal bytes is shortened from this length on.
+const RUN: usize = 8;
+
+/// Shows bytes as lower-case hex, `-` for none, a long trailing run of `bb` as `N*bb`.
+pub(crate) struct Bytes<'a>(pub(crate) &'a [u8]);
+
+impl Display for Bytes<'_> {
+    fn fmt(&self, f: &mut Formatter<'_>) -> Result {
+        let Some(&last) = self.0.last() else {
+            return f.write_str("-");
+        };
+        let run = self.0.iter().rev().take_while(|&&b| b == last).count();
+        let run = if run < RUN { 0 } else { run };
+        let plain = self.0.len() - run;
+        for byte in &self.0[..plain] {
+            write!(f, "{byte:02x}")?;
+        }
+        if 0 < plain && 0 < run {
+            f.write_str("+")?;
+        }
+        if 0 < run {
+            write!(f, "{run}*{last:02x}")?;
+        }
+        Ok(())
+    }
+}

@@ -1,0 +1,1 @@
+// The samples that document 01 marks T: one computed list, one theorem (proofs/Samples.antt). No code.

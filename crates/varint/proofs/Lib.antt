@@ -1,0 +1,4 @@
+pub mod TableLaws
+pub mod ByteLaws
+pub mod RoundTrip
+pub mod Promises

@@ -1,0 +1,50 @@
+-- `put8` writes eight bytes as twice four; the second part is lent and comes back. Assumes nothing.
+use denote.Ref.{now}
+use mathlib.Core.Path.{refl}
+use Rattle.wire.specs.Numbers.{digits}
+use Rattle.wire.proofs.NumberLaws.{length-digits}
+use Rattle.wire.proofs.FrontLaws.{lent-front}
+use Rattle.varint.proofs.ByteLaws.{digits-eight}
+use Prim.Native.Nat.{_/_}
+use borrow.Author.Needs.{needs}
+use Rattle.varint.proofs.put8.Statement.{statement}
+use Rattle.varint.proofs.put8.Tie as tie
+
+put4-requires : tie.Need-put4-requires
+put4-requires c κs = search needs
+
+sub-put4 : tie.Need-sub-put4
+sub-put4 c = search needs
+
+part-put4-start : tie.Need-part-put4-start
+part-put4-start c = search needs
+
+part-put4-end : tie.Need-part-put4-end
+part-put4-end c = search needs
+
+put4-requires-2 : tie.Need-put4-requires-2
+put4-requires-2 c κs = search needs
+
+same-length : tie.Need-same-length
+same-length c = search needs
+
+returns : tie.Need-returns
+returns c =
+    let args = c .before .before .before .before .before .before .before .before .before .args in
+    let put4 = c .before .before .before .before .before .before .put4 in
+    let put42 = c .before .before .put42 in
+    let a = args in
+    rw (digits-eight (a .n))
+    (lent-front (digits 256 4 (a .n / 4294967296)) (digits 256 4 (a .n)) (now (a .out)) (put4 .last .0) (put42 .last .0) 4 _ (length-digits 256 4 (a .n / 4294967296)) (put4 .ensures) refl (put42 .ensures))
+
+pub put8-spec : {M : Type 1} → statement M
+put8-spec =
+    tie.close
+    (tie.spec
+    put4-requires
+    sub-put4
+    part-put4-start
+    part-put4-end
+    put4-requires-2
+    same-length
+    returns)

@@ -1,0 +1,204 @@
+-- `read` meets its promise in each class: what it has gathered is the number of the class's bytes without the two top bits. Assumes nothing.
+use native.Mathlib.Omega.{arith}
+use mathlib.Core.Path.{_≡_, _∙_}
+use denote.Ref.{now}
+use lib.ListN.{getD, take, drop}
+use lib.Dec.{lit<}
+use Prim.Native.Nat.{_<_, _/_, _%_, _+_, _*_}
+use Rattle.wire.specs.Numbers.{number}
+use Rattle.wire.proofs.NumberLaws.{number-two}
+use Rattle.varint.proofs.ByteLaws.{number-one, number-four, number-eight, low-four, low-eight}
+use Rattle.varint.proofs.Promises.{found-none, found-cut, found}
+use borrow.Author.Needs.{needs}
+use Rattle.varint.proofs.read.Statement.{statement}
+use Rattle.varint.proofs.read.Tie as tie
+
+first : (c : tie.After-wide) → ((c .wide .result) / 64 < 4) × (getD (now (c .before .before .before .before .args .input)) 0 0 / 64 ≡ (c .wide .result) / 64)
+first c = (omega arith, rw (c .wide .ensures .0))
+
+low-bytes : (c : tie.After-wide4) → (((c .before .before .before .before .before .before .before .before .before .before .wide .result) % 64 * 256 + (c .before .before .before .before .before .before .wide2 .result)) * 256 + (c .before .before .wide3 .result)) * 256 + (c .wide4 .result) ≡ number 256 (take 4 (now (c .before .before .before .before .before .before .before .before .before .before .before .before .before .before .args .input))) % 1073741824
+low-bytes c =
+    let wide = c .before .before .before .before .before .before .before .before .before .before .wide in
+    let wide2 = c .before .before .before .before .before .before .wide2 in
+    let wide3 = c .before .before .wide3 in
+    let args = c .before .before .before .before .before .before .before .before .before .before .before .before .before .before .args in
+    let if5 = c .before .before .before .before .if5 in
+    low-four (wide .result) (wide2 .result) (wide3 .result) (c .wide4 .result) (wide2 .ensures .1) (wide3 .ensures .1) (c .wide4 .ensures .1)
+    ∙ rw ((wide .ensures .0), (wide2 .ensures .0), (wide3 .ensures .0), (c .wide4 .ensures .0), number-four (now (args .input)) 0 (if5 .left))
+
+array-read-if1 : tie.Need-array-read-if1
+array-read-if1 c = search needs
+
+returns : tie.Need-returns
+returns c = found-none (now (c .before .before .args .input)) (c .if1 .taken)
+
+shared-slice-read-wide : tie.Need-shared-slice-read-wide
+shared-slice-read-wide c = search needs
+
+wide-requires : tie.Need-wide-requires
+wide-requires c κs = search needs
+
+array-read-t18 : tie.Need-array-read-t18
+array-read-t18 c = search needs
+
+returns-2 : tie.Need-returns-2
+returns-2 c =
+    let args = c .before .before .before .before .before .args in
+    let if1 = c .before .before .before .if1 in
+    let wide = c .before .wide in
+    let s = now (args .input) in
+    let f = first (c .before) in
+    found s 0 (f .1 ∙ (c .if2 .taken)) (lit< tt) (if1 .left) ((wide .result) % 64) (omega (arith, number-one s (if1 .left), (wide .ensures)))
+
+array-read-if3 : tie.Need-array-read-if3
+array-read-if3 c = search needs
+
+returns-3 : tie.Need-returns-3
+returns-3 c =
+    let args = c .before .before .before .before .before .before .args in
+    let wide = c .before .before .wide in
+    let f = first (c .before .before) in
+    found-cut (now (args .input)) ((wide .result) / 64) (f .1) (f .0) 1 (omega arith) (c .if3 .taken)
+
+mul-two : tie.Need-mul-two
+mul-two c = search needs
+
+shared-slice-read-wide-2 : tie.Need-shared-slice-read-wide-2
+shared-slice-read-wide-2 c = search needs
+
+wide-requires-2 : tie.Need-wide-requires-2
+wide-requires-2 c κs = search needs
+
+add-two : tie.Need-add-two
+add-two c = search needs
+
+array-read-t29 : tie.Need-array-read-t29
+array-read-t29 c = search needs
+
+returns-4 : tie.Need-returns-4
+returns-4 c =
+    let args = c .before .before .before .before .before .before .before .before .before .args in
+    let if3 = c .before .before .before .if3 in
+    let wide = c .before .before .before .before .before .wide in
+    let wide2 = c .before .wide2 in
+    let s = now (args .input) in
+    let f = first (c .before .before .before .before .before) in
+    found s 1 (f .1 ∙ (c .if4 .taken)) (lit< tt) (if3 .left) _ (omega (arith, number-two s (if3 .left), (wide .ensures), (wide2 .ensures)))
+
+array-read-if5 : tie.Need-array-read-if5
+array-read-if5 c = search needs
+
+returns-5 : tie.Need-returns-5
+returns-5 c =
+    let args = c .before .before .before .before .before .before .before .before .before .before .args in
+    let wide = c .before .before .before .before .before .before .wide in
+    let f = first (c .before .before .before .before .before .before) in
+    found-cut (now (args .input)) ((wide .result) / 64) (f .1) (f .0) 2 (omega arith) (c .if5 .taken)
+
+mul-four : tie.Need-mul-four
+mul-four c = search needs
+
+shared-slice-read-wide-3 : tie.Need-shared-slice-read-wide-3
+shared-slice-read-wide-3 c = search needs
+
+wide-requires-3 : tie.Need-wide-requires-3
+wide-requires-3 c κs = search needs
+
+add-four : tie.Need-add-four
+add-four c = search needs
+
+mul-four-2 : tie.Need-mul-four-2
+mul-four-2 c = search needs
+
+shared-slice-read-wide-4 : tie.Need-shared-slice-read-wide-4
+shared-slice-read-wide-4 c = search needs
+
+wide-requires-4 : tie.Need-wide-requires-4
+wide-requires-4 c κs = search needs
+
+add-four-2 : tie.Need-add-four-2
+add-four-2 c = search needs
+
+array-read-t43 : tie.Need-array-read-t43
+array-read-t43 c = search needs
+
+returns-6 : tie.Need-returns-6
+returns-6 c =
+    let args = c .before .before .before .before .before .before .before .before .before .before .before .before .before .before .before .args in
+    let if5 = c .before .before .before .before .before .if5 in
+    let s = now (args .input) in
+    let f = first (c .before .before .before .before .before .before .before .before .before .before .before) in
+    found s 2 (f .1 ∙ (c .if6 .taken)) (lit< tt) (if5 .left) _ (low-bytes (c .before))
+
+array-read-if7 : tie.Need-array-read-if7
+array-read-if7 c = search needs
+
+returns-7 : tie.Need-returns-7
+returns-7 c =
+    let args = c .before .before .before .before .before .before .before .before .before .before .before .before .before .before .before .before .args in
+    let wide = c .before .before .before .before .before .before .before .before .before .before .before .before .wide in
+    let f = first (c .before .before .before .before .before .before .before .before .before .before .before .before) in
+    found-cut (now (args .input)) ((wide .result) / 64) (f .1) (f .0) 3 (omega arith) (c .if7 .taken)
+
+mul-t23 : tie.Need-mul-t23
+mul-t23 c = search needs
+
+be32-requires : tie.Need-be32-requires
+be32-requires c κs = search needs
+
+add-t35 : tie.Need-add-t35
+add-t35 c = search needs
+
+array-read-t11 : tie.Need-array-read-t11
+array-read-t11 c = search needs
+
+returns-8 : tie.Need-returns-8
+returns-8 c =
+    let args = c .before .before .before .before .before .before .before .before .before .before .before .before .before .before .before .before .before .args in
+    let wide = c .before .before .before .before .before .before .before .before .before .before .before .before .before .wide in
+    let if7 = c .before .if7 in
+    let s = now (args .input) in
+    let f = first (c .before .before .before .before .before .before .before .before .before .before .before .before .before) in
+    let e : (wide .result) / 64 ≡ 3 = omega arith in
+    let w = low-bytes (c .before .before .before) in
+    let high : number 256 (take 4 (drop 0 s)) % 1073741824 * 4294967296 + (c .be32 .result) ≡ number 256 (take 8 s) % 4611686018427387904
+    = rw (number-eight s (if7 .left), ← (c .be32 .ensures .0)) (low-eight (number 256 (take 4 (drop 0 s))) (c .be32 .result) (c .be32 .ensures .1)) in
+    found s 3 (f .1 ∙ e) (lit< tt) (if7 .left) _ (rw w high)
+
+pub read-spec : {M : Type 1} → statement M
+read-spec =
+    tie.close
+    (tie.spec
+    array-read-if1
+    returns
+    shared-slice-read-wide
+    wide-requires
+    array-read-t18
+    returns-2
+    array-read-if3
+    returns-3
+    mul-two
+    shared-slice-read-wide-2
+    wide-requires-2
+    add-two
+    array-read-t29
+    returns-4
+    array-read-if5
+    returns-5
+    mul-four
+    shared-slice-read-wide-3
+    wide-requires-3
+    add-four
+    mul-four-2
+    shared-slice-read-wide-4
+    wide-requires-4
+    add-four-2
+    array-read-t43
+    returns-6
+    array-read-if7
+    returns-7
+    mul-t23
+    be32-requires
+    add-t35
+    array-read-t11
+    returns-8)

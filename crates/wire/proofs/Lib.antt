@@ -1,0 +1,4 @@
+pub mod NumberLaws
+pub mod FrontLaws
+pub mod ListLaws
+pub mod SumLaws

@@ -1,0 +1,26 @@
+-- What a call of document 01 answers: its result, or the number of the first question to which the answer is "no".
+use Prim.Native.Nat.{ℕ, _+_, _^_, _≤_}
+use mathlib.Core.Bool.{Bool, true, false}
+
+pub data Answer (A : Type 0) : Type 0 where
+  result : A → Answer A
+  refused : ℕ → Answer A
+
+-- a question with its number: on "yes" what follows decides
+abbrev pub ask : {A : Type 0} → Bool → ℕ → Answer A → Answer A
+ask true n next = next
+ask false n next = refused n
+
+-- what a buffer holds after a call: by the result, or left as it was
+abbrev pub unlessRefused : {A B : Type 0} → Answer A → (A → B) → B → B
+unlessRefused (result a) f old = f a
+unlessRefused (refused n) f old = old
+
+-- the numbers that a refusal may carry (demand 1)
+abbrev pub IsNumber : ℕ → Type 0
+IsNumber n = (1 ≤ n) × (n ≤ 27)
+
+-- an answer as one 64-bit number, for C: the result, or 2^32 plus the number
+abbrev pub coded : Answer ℕ → ℕ
+coded (result n) = n
+coded (refused n) = 2 ^ 32 + n

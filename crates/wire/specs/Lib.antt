@@ -1,0 +1,4 @@
+pub mod Answer
+pub mod Numbers
+pub mod Front
+pub mod Sums
