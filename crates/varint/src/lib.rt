@@ -72,10 +72,11 @@ pub fn size(value: u64) -> Width
     ensures { λ r. ⌜ Sized value r ⌝ }
 {
     let class = class_of(value);
-    if 4 <= class {
-        return Width::Refused(1);
+    if class < 4 {
+        Width::Bytes(width_of(class))
+    } else {
+        Width::Refused(1)
     }
-    Width::Bytes(width_of(class))
 }
 
 // Writes the four low bytes of n.
@@ -142,6 +143,12 @@ fn be32(b: &[u8], at: usize) -> u64
     wide(b[at]) * 16777216 + wide(b[at + 1]) * 65536 + wide(b[at + 2]) * 256 + wide(b[at + 3])
 }
 
+fn whole(value: u64, width: usize) -> Got
+    ensures { λ r. ⌜ r ≡ Got.Value (record { value = value; width = width }) ⌝ }
+{
+    Got::Value(Varint { value, width })
+}
+
 // Reads the varint at the front of the input, in any width; refusal 3 where bytes of it are missing. Each width goes on from the
 // bytes of the one before, so that no byte is read twice and the whole is small enough to be inlined.
 pub fn read(input: &[u8]) -> Got
@@ -155,36 +162,24 @@ pub fn read(input: &[u8]) -> Got
     let class = first / 64;
     let one = first % 64;
     if class == 0 {
-        return Got::Value(Varint {
-            value: one,
-            width: WIDTHS[0],
-        });
+        return whole(one, WIDTHS[0]);
     }
     if n < WIDTHS[1] {
         return Got::Refused(3);
     }
     let two = one * 256 + wide(input[1]);
     if class == 1 {
-        return Got::Value(Varint {
-            value: two,
-            width: WIDTHS[1],
-        });
+        return whole(two, WIDTHS[1]);
     }
     if n < WIDTHS[2] {
         return Got::Refused(3);
     }
     let four = (two * 256 + wide(input[2])) * 256 + wide(input[3]);
     if class == 2 {
-        return Got::Value(Varint {
-            value: four,
-            width: WIDTHS[2],
-        });
+        return whole(four, WIDTHS[2]);
     }
     if n < WIDTHS[3] {
         return Got::Refused(3);
     }
-    Got::Value(Varint {
-        value: four * 4294967296 + be32(input, 4),
-        width: WIDTHS[3],
-    })
+    whole(four * 4294967296 + be32(input, 4), WIDTHS[3])
 }

@@ -30,9 +30,12 @@ same-length c = search needs
 
 returns : tie.Need-returns
 returns c =
-    let args = c .before .before .before .before .before .before .before .before .before .args in
-    let put4 = c .before .before .before .before .before .before .put4 in
-    let put42 = c .before .before .put42 in
+    let the-args = c .before .before .before .before .before .before .before .before .before .args in
+    let the-put4 = c .before .before .before .before .before .before .put4 in
+    let the-put42 = c .before .before .put42 in
+    let args = the-args in
+    let put4 = the-put4 in
+    let put42 = the-put42 in
     let a = args in
     rw (digits-eight (a .n))
     (lent-front (digits 256 4 (a .n / 4294967296)) (digits 256 4 (a .n)) (now (a .out)) (put4 .last .0) (put42 .last .0) 4 _ (length-digits 256 4 (a .n / 4294967296)) (put4 .ensures) refl (put42 .ensures))

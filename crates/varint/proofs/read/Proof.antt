@@ -38,17 +38,21 @@ shared-slice-read-wide c = search needs
 wide-requires : tie.Need-wide-requires
 wide-requires c κs = search needs
 
-array-read-t18 : tie.Need-array-read-t18
-array-read-t18 c = search needs
+array-read-whole : tie.Need-array-read-whole
+array-read-whole c = search needs
+
+whole-requires : tie.Need-whole-requires
+whole-requires c κs = search needs
 
 returns-2 : tie.Need-returns-2
 returns-2 c =
-    let args = c .before .before .before .before .before .args in
-    let if1 = c .before .before .before .if1 in
-    let wide = c .before .wide in
+    let args = c .before .before .before .before .before .before .args in
+    let if2 = c .before .if2 in
+    let if1 = c .before .before .before .before .if1 in
+    let wide = c .before .before .wide in
     let s = now (args .input) in
-    let f = first (c .before) in
-    found s 0 (f .1 ∙ (c .if2 .taken)) (lit< tt) (if1 .left) ((wide .result) % 64) (omega (arith, number-one s (if1 .left), (wide .ensures)))
+    let f = first (c .before .before) in
+    rw (c .whole .ensures) (found s 0 (f .1 ∙ (if2 .taken)) (lit< tt) (if1 .left) ((wide .result) % 64) (omega (arith, number-one s (if1 .left), (wide .ensures))))
 
 array-read-if3 : tie.Need-array-read-if3
 array-read-if3 c = search needs
@@ -72,18 +76,22 @@ wide-requires-2 c κs = search needs
 add-two : tie.Need-add-two
 add-two c = search needs
 
-array-read-t29 : tie.Need-array-read-t29
-array-read-t29 c = search needs
+array-read-whole-2 : tie.Need-array-read-whole-2
+array-read-whole-2 c = search needs
+
+whole-requires-2 : tie.Need-whole-requires-2
+whole-requires-2 c κs = search needs
 
 returns-4 : tie.Need-returns-4
 returns-4 c =
-    let args = c .before .before .before .before .before .before .before .before .before .args in
-    let if3 = c .before .before .before .if3 in
-    let wide = c .before .before .before .before .before .wide in
-    let wide2 = c .before .wide2 in
+    let args = c .before .before .before .before .before .before .before .before .before .before .args in
+    let if4 = c .before .if4 in
+    let if3 = c .before .before .before .before .if3 in
+    let wide = c .before .before .before .before .before .before .wide in
+    let wide2 = c .before .before .wide2 in
     let s = now (args .input) in
-    let f = first (c .before .before .before .before .before) in
-    found s 1 (f .1 ∙ (c .if4 .taken)) (lit< tt) (if3 .left) _ (omega (arith, number-two s (if3 .left), (wide .ensures), (wide2 .ensures)))
+    let f = first (c .before .before .before .before .before .before) in
+    rw (c .whole2 .ensures) (found s 1 (f .1 ∙ (if4 .taken)) (lit< tt) (if3 .left) _ (omega (arith, number-two s (if3 .left), (wide .ensures), (wide2 .ensures))))
 
 array-read-if5 : tie.Need-array-read-if5
 array-read-if5 c = search needs
@@ -119,16 +127,20 @@ wide-requires-4 c κs = search needs
 add-four-2 : tie.Need-add-four-2
 add-four-2 c = search needs
 
-array-read-t43 : tie.Need-array-read-t43
-array-read-t43 c = search needs
+array-read-whole-3 : tie.Need-array-read-whole-3
+array-read-whole-3 c = search needs
+
+whole-requires-3 : tie.Need-whole-requires-3
+whole-requires-3 c κs = search needs
 
 returns-6 : tie.Need-returns-6
 returns-6 c =
-    let args = c .before .before .before .before .before .before .before .before .before .before .before .before .before .before .before .args in
-    let if5 = c .before .before .before .before .before .if5 in
+    let args = c .before .before .before .before .before .before .before .before .before .before .before .before .before .before .before .before .args in
+    let if6 = c .before .if6 in
+    let if5 = c .before .before .before .before .before .before .if5 in
     let s = now (args .input) in
-    let f = first (c .before .before .before .before .before .before .before .before .before .before .before) in
-    found s 2 (f .1 ∙ (c .if6 .taken)) (lit< tt) (if5 .left) _ (low-bytes (c .before))
+    let f = first (c .before .before .before .before .before .before .before .before .before .before .before .before) in
+    rw (c .whole3 .ensures) (found s 2 (f .1 ∙ (if6 .taken)) (lit< tt) (if5 .left) _ (low-bytes (c .before .before)))
 
 array-read-if7 : tie.Need-array-read-if7
 array-read-if7 c = search needs
@@ -140,30 +152,34 @@ returns-7 c =
     let f = first (c .before .before .before .before .before .before .before .before .before .before .before .before) in
     found-cut (now (args .input)) ((wide .result) / 64) (f .1) (f .0) 3 (omega arith) (c .if7 .taken)
 
-mul-t23 : tie.Need-mul-t23
-mul-t23 c = search needs
+mul-whole : tie.Need-mul-whole
+mul-whole c = search needs
 
 be32-requires : tie.Need-be32-requires
 be32-requires c κs = search needs
 
-add-t35 : tie.Need-add-t35
-add-t35 c = search needs
+add-whole : tie.Need-add-whole
+add-whole c = search needs
 
-array-read-t11 : tie.Need-array-read-t11
-array-read-t11 c = search needs
+array-read-whole-4 : tie.Need-array-read-whole-4
+array-read-whole-4 c = search needs
+
+whole-requires-4 : tie.Need-whole-requires-4
+whole-requires-4 c κs = search needs
 
 returns-8 : tie.Need-returns-8
 returns-8 c =
-    let args = c .before .before .before .before .before .before .before .before .before .before .before .before .before .before .before .before .before .args in
-    let wide = c .before .before .before .before .before .before .before .before .before .before .before .before .before .wide in
-    let if7 = c .before .if7 in
+    let args = c .before .before .before .before .before .before .before .before .before .before .before .before .before .before .before .before .before .before .args in
+    let wide = c .before .before .before .before .before .before .before .before .before .before .before .before .before .before .wide in
+    let be32 = c .before .be32 in
+    let if7 = c .before .before .if7 in
     let s = now (args .input) in
-    let f = first (c .before .before .before .before .before .before .before .before .before .before .before .before .before) in
+    let f = first (c .before .before .before .before .before .before .before .before .before .before .before .before .before .before) in
     let e : (wide .result) / 64 ≡ 3 = omega arith in
-    let w = low-bytes (c .before .before .before) in
-    let high : number 256 (take 4 (drop 0 s)) % 1073741824 * 4294967296 + (c .be32 .result) ≡ number 256 (take 8 s) % 4611686018427387904
-    = rw (number-eight s (if7 .left), ← (c .be32 .ensures .0)) (low-eight (number 256 (take 4 (drop 0 s))) (c .be32 .result) (c .be32 .ensures .1)) in
-    found s 3 (f .1 ∙ e) (lit< tt) (if7 .left) _ (rw w high)
+    let w = low-bytes (c .before .before .before .before) in
+    let high : number 256 (take 4 (drop 0 s)) % 1073741824 * 4294967296 + (be32 .result) ≡ number 256 (take 8 s) % 4611686018427387904
+    = rw (number-eight s (if7 .left), ← (be32 .ensures .0)) (low-eight (number 256 (take 4 (drop 0 s))) (be32 .result) (be32 .ensures .1)) in
+    rw (c .whole4 .ensures) (found s 3 (f .1 ∙ e) (lit< tt) (if7 .left) _ (rw w high))
 
 pub read-spec : {M : Type 1} → statement M
 read-spec =
@@ -173,7 +189,8 @@ read-spec =
     returns
     shared-slice-read-wide
     wide-requires
-    array-read-t18
+    array-read-whole
+    whole-requires
     returns-2
     array-read-if3
     returns-3
@@ -181,7 +198,8 @@ read-spec =
     shared-slice-read-wide-2
     wide-requires-2
     add-two
-    array-read-t29
+    array-read-whole-2
+    whole-requires-2
     returns-4
     array-read-if5
     returns-5
@@ -193,12 +211,14 @@ read-spec =
     shared-slice-read-wide-4
     wide-requires-4
     add-four-2
-    array-read-t43
+    array-read-whole-3
+    whole-requires-3
     returns-6
     array-read-if7
     returns-7
-    mul-t23
+    mul-whole
     be32-requires
-    add-t35
-    array-read-t11
+    add-whole
+    array-read-whole-4
+    whole-requires-4
     returns-8)

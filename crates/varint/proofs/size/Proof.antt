@@ -7,18 +7,18 @@ use Rattle.varint.proofs.size.Tie as tie
 class-of-requires : tie.Need-class-of-requires
 class-of-requires c κs = search needs
 
-returns : tie.Need-returns
-returns c = sized-large (c .before .before .args .value) (c .before .class-of .result) (c .before .class-of .ensures) (c .if1 .taken)
-
 width-of-requires : tie.Need-width-of-requires
 width-of-requires c κs = search needs
 
-returns-2 : tie.Need-returns-2
-returns-2 c =
+returns : tie.Need-returns
+returns c =
     let args = c .before .before .before .args in
     let class-of = c .before .before .class-of in
     let if1 = c .before .if1 in
-    rw (c .width-of .ensures) (sized (args .value) (class-of .result) (class-of .ensures) (if1 .left))
+    rw (c .width-of .ensures) (sized (args .value) (class-of .result) (class-of .ensures) (if1 .taken))
+
+returns-2 : tie.Need-returns-2
+returns-2 c = sized-large (c .before .before .args .value) (c .before .class-of .result) (c .before .class-of .ensures) (c .if1 .left)
 
 pub size-spec : {M : Type 1} → statement M
-size-spec = tie.close (tie.spec class-of-requires returns width-of-requires returns-2)
+size-spec = tie.close (tie.spec class-of-requires width-of-requires returns returns-2)
