@@ -59,16 +59,11 @@ add-result-3 c = search needs
 
 returns : tie.Need-returns
 returns c =
-    let the-args = c .before .before .before .before .before .before .before .before .before .args in
-    let the-pre = c .before .before .before .before .before .before .before .before .before .pre in
-    let the-wide = c .before .before .before .before .before .before .wide in
-    let the-wide2 = c .before .before .before .before .wide2 in
-    let the-wide3 = c .before .before .wide3 in
-    let args = the-args in
-    let pre = the-pre in
-    let wide = the-wide in
-    let wide2 = the-wide2 in
-    let wide3 = the-wide3 in
+    let args = c .before .before .before .before .before .before .before .before .before .args in
+    let pre = c .before .before .before .before .before .before .before .before .before .pre in
+    let wide = c .before .before .before .before .before .before .wide in
+    let wide2 = c .before .before .before .before .wide2 in
+    let wide3 = c .before .before .wide3 in
     (omega (arith, number-four (now (args .b)) (args .at) pre, (wide .ensures), (wide2 .ensures), (wide3 .ensures), (c .wide4 .ensures)), search needs)
 
 pub be32-spec : {M : Type 1} → statement M

@@ -30,15 +30,11 @@ same-length c = search needs
 
 returns : tie.Need-returns
 returns c =
-    let the-args = c .before .before .before .before .before .before .before .before .before .args in
-    let the-put4 = c .before .before .before .before .before .before .put4 in
-    let the-put42 = c .before .before .put42 in
-    let args = the-args in
-    let put4 = the-put4 in
-    let put42 = the-put42 in
-    let a = args in
-    rw (digits-eight (a .n))
-    (lent-front (digits 256 4 (a .n / 4294967296)) (digits 256 4 (a .n)) (now (a .out)) (put4 .last .0) (put42 .last .0) 4 _ (length-digits 256 4 (a .n / 4294967296)) (put4 .ensures) refl (put42 .ensures))
+    let args = c .before .before .before .before .before .before .before .before .before .args in
+    let put4 = c .before .before .before .before .before .before .put4 in
+    let put42 = c .before .before .put42 in
+    rw (digits-eight (args .n))
+    (lent-front (digits 256 4 (args .n / 4294967296)) (digits 256 4 (args .n)) (now (args .out)) (put4 .last .0) (put42 .last .0) 4 _ (length-digits 256 4 (args .n / 4294967296)) (put4 .ensures) refl (put42 .ensures))
 
 pub put8-spec : {M : Type 1} → statement M
 put8-spec =

@@ -41,18 +41,12 @@ same-length c = search needs
 
 returns-3 : tie.Need-returns-3
 returns-3 c =
-    let the-width-of = c .before .before .before .before .before .width-of in
-    let the-args = c .before .before .before .before .before .before .before .before .before .args in
-    let the-class-of = c .before .before .before .before .before .before .before .class-of in
-    let the-if1 = c .before .before .before .before .before .before .if1 in
-    let the-put-form = c .before .before .put-form in
-    let the-if2 = c .before .before .before .before .if2 in
-    let width-of = the-width-of in
-    let args = the-args in
-    let class-of = the-class-of in
-    let if1 = the-if1 in
-    let put-form = the-put-form in
-    let if2 = the-if2 in
+    let width-of = c .before .before .before .before .before .width-of in
+    let args = c .before .before .before .before .before .before .before .before .before .args in
+    let class-of = c .before .before .before .before .before .before .before .class-of in
+    let if1 = c .before .before .before .before .before .before .if1 in
+    let put-form = c .before .before .put-form in
+    let if2 = c .before .before .before .before .if2 in
     rw (width-of .ensures) (written (args .value) (now (args .out)) (class-of .result) (class-of .ensures) (if1 .left) (put-form .last .0) (rw (width-of .ensures) at (if2 .left)) (put-form .ensures))
 
 pub write-spec : {M : Type 1} → statement M

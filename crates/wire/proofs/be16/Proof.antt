@@ -28,7 +28,11 @@ cast-result : tie.Need-cast-result
 cast-result c = search needs
 
 returns : tie.Need-returns
-returns c = omega (arith, number-two (now (c .before .before .before .before .before .args .b)) (c .before .before .before .before .before .pre), (c .before .before .wide .ensures), c .wide2 .ensures)
+returns c =
+    let args = c .before .before .before .before .before .args in
+    let pre = c .before .before .before .before .before .pre in
+    let wide = c .before .before .wide in
+    omega (arith, number-two (now (args .b)) pre, (wide .ensures), c .wide2 .ensures)
 
 pub be16-spec : {M : Type 1} → statement M
 be16-spec =

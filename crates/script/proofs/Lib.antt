@@ -1,0 +1,9 @@
+pub mod ScanLaws
+pub mod LineLaws
+pub mod DecimalLaws
+pub mod HexLaws
+pub mod PieceLaws
+pub mod ShownLaws
+pub mod ReadBack
+pub mod ShownBack
+pub mod Samples

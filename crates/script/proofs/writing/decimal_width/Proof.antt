@@ -1,0 +1,39 @@
+-- `script::writing::decimal_width` meets its contract: the turns so far and the digits of what is left make the digits of the whole number. Assumes nothing.
+use native.Mathlib.Omega.{arith}
+use borrow.Author.Needs.{needs}
+use Rattle.script.proofs.DecimalLaws.{Counted, count-start, count-next, count-end}
+use Rattle.script.proofs.writing.decimal_width.Statement.{statement}
+use Rattle.script.proofs.writing.decimal_width.Tie as tie
+
+abbrev Inv-loop : tie.InvT-loop
+Inv-loop n rest₀ k₀ rest k =
+    Counted n rest k
+
+abbrev μ-loop : tie.MeasureT-loop
+μ-loop n rest₀ k₀ rest k =
+    rest
+
+loop-holds : tie.Need-loop-holds Inv-loop μ-loop
+loop-holds c = count-start (c .args .n) (search needs)
+
+add-k : tie.Need-add-k Inv-loop μ-loop
+add-k c = omega (arith, c .before .loop .inv .few)
+
+loop-less : tie.Need-loop-less Inv-loop μ-loop
+loop-less c = search needs
+
+loop-again : tie.Need-loop-again Inv-loop μ-loop
+loop-again c =
+    let start = c .before .before in
+    count-next (start .args .n) (c .before .loop .rest) (c .before .loop .k) (c .before .loop .inv) (c .loop-test .taken)
+
+returns : tie.Need-returns Inv-loop μ-loop
+returns c =
+    let start = c .before .before in (
+      count-end (start .args .n) (c .before .loop .rest) (c .before .loop .k) (c .before .loop .inv) (c .loop-test .left),
+      c .before .loop .inv .few,
+    )
+
+pub decimal-width-spec : {M : Type 1} → statement M
+decimal-width-spec =
+    tie.close (tie.spec Inv-loop μ-loop loop-holds add-k loop-less loop-again returns)

@@ -1,0 +1,163 @@
+-- `script::writing::put_joined` meets its contract: the hex, the plus and the run are written one after the other. Assumes nothing.
+use Prim.Native.Nat.{_+_, _-_, _*_, _≤_}
+use mathlib.Core.Path.{_≡_, refl, sym, _∙_}
+use mathlib.Core.List.{[], _∷_}
+use native.Mathlib.Omega.{arith}
+use lib.ListN.{length}
+use borrow.Author.Needs.{needs}
+use Rattle.wire.specs.Front.{Put}
+use Rattle.script.specs.Scan.{plus}
+use Rattle.script.specs.Hex.{hexText}
+use Rattle.script.specs.Shown.{runText, joinedText}
+use Rattle.script.proofs.HexLaws.{length-hexText}
+use Rattle.script.proofs.ShownLaws.{written, not-written, was-written, two-lent, length-runText, length-joined-run}
+use Rattle.script.proofs.writing.put_joined.Statement.{statement}
+use Rattle.script.proofs.writing.put_joined.Tie as tie
+
+-- the text fits
+fits : (c : tie.Else2)
+    → 2 * length (c .before .before .before .before .before .args .head .now) + ((c .before .before .decimal-width .result) + 4) ≤ length (c .before .before .before .before .before .args .out .now)
+fits c = omega (arith, c .before .if1 .left, c .if2 .left)
+
+-- the hex was written
+hex : (c : tie.After-put-hex)
+    → Put (hexText (c .before .before .before .before .before .before .before .args .head .now)) (c .put-hex .result) (c .before .before .before .before .before .before .before .args .out .now) (c .put-hex .last .0)
+hex c =
+    let start = c .before .before .before .before .before .before .before in
+    was-written (hexText (start .args .head .now)) (c .put-hex .result) (start .args .out .now) (c .put-hex .last .0) (c .put-hex .ensures)
+    (omega (arith, length-hexText (start .args .head .now), fits (c .before .before)))
+
+place : (c : tie.After-put-hex)
+    → (c .put-hex .result) ≡ 2 * length (c .before .before .before .before .before .before .before .args .head .now)
+place c =
+    let start = c .before .before .before .before .before .before .before in
+    hex c .count ∙ length-hexText (start .args .head .now)
+
+decimal-width-requires : tie.Need-decimal-width-requires
+decimal-width-requires c κs = search needs
+
+add-after : tie.Need-add-after
+add-after c = search needs
+
+returns : tie.Need-returns
+returns c =
+    let start = c .before .before .before .before in
+    not-written (joinedText (start .args .head .now) (runText (start .args .times) (start .args .byte))) (start .args .out .now)
+    (omega (
+      arith,
+      length-joined-run (start .args .head .now) (start .args .times) (start .args .byte) (c .before .decimal-width .result)
+          (c .before .decimal-width .ensures .0),
+      c .if1 .taken,
+    ))
+
+sub-if2 : tie.Need-sub-if2
+sub-if2 c = search needs
+
+returns-2 : tie.Need-returns-2
+returns-2 c =
+    let start = c .before .before .before .before .before in
+    not-written (joinedText (start .args .head .now) (runText (start .args .times) (start .args .byte))) (start .args .out .now)
+    (omega (
+      arith,
+      length-joined-run (start .args .head .now) (start .args .times) (start .args .byte)
+          (c .before .before .decimal-width .result) (c .before .before .decimal-width .ensures .0),
+      c .before .if1 .left,
+      c .if2 .taken,
+    ))
+
+put-hex-requires : tie.Need-put-hex-requires
+put-hex-requires c κs = search needs
+
+sub-put-bytes : tie.Need-sub-put-bytes
+sub-put-bytes c = search needs
+
+part-put-bytes-start : tie.Need-part-put-bytes-start
+part-put-bytes-start c = search needs
+
+part-put-bytes-end : tie.Need-part-put-bytes-end
+part-put-bytes-end c = search needs
+
+slice-aggregate-put-bytes : tie.Need-slice-aggregate-put-bytes
+slice-aggregate-put-bytes c = search needs
+
+put-bytes-requires : tie.Need-put-bytes-requires
+put-bytes-requires c κs = omega (arith, place (c .before .before .before .before), fits (c .before .before .before .before .before .before))
+
+add-put-run : tie.Need-add-put-run
+add-put-run c = search needs
+
+sub-put-run : tie.Need-sub-put-run
+sub-put-run c =
+    omega (
+      arith,
+      place (c .before .before .before .before .before .before .before),
+      fits
+          (c .before .before .before .before .before .before .before .before .before),
+    )
+
+part-put-run-start : tie.Need-part-put-run-start
+part-put-run-start c =
+    omega (
+      arith,
+      place (c .before .before .before .before .before .before .before),
+      fits
+          (c .before .before .before .before .before .before .before .before .before),
+    )
+
+part-put-run-end : tie.Need-part-put-run-end
+part-put-run-end c = search needs
+
+put-run-requires : tie.Need-put-run-requires
+put-run-requires c κs = search needs
+
+add-result : tie.Need-add-result
+add-result c = search needs
+
+same-length : tie.Need-same-length
+same-length c = search needs
+
+returns-3 : tie.Need-returns-3
+unfolding joinedText
+returns-3 c =
+    let start = c .before .before .before .before .before .before .before .before .before .before .before .before .before .before .before .before .before .before in
+    let put-bytes = c .before .before .before .before .before .before .put-bytes in
+    let put-hex = c .before .before .before .before .before .before .before .before .before .before .before .put-hex in
+    let decimal-width = c .before .before .before .before .before .before .before .before .before .before .before .before .before .before .before .decimal-width in
+    let h = start .args .head .now in
+    let text = runText (start .args .times) (start .args .byte) in
+    let at = put-hex .result in
+    let p = hex (c .before .before .before .before .before .before .before .before .before .before .before) in
+    let w = place (c .before .before .before .before .before .before .before .before .before .before .before) in
+    let f = fits (c .before .before .before .before .before .before .before .before .before .before .before .before .before) in
+    let n = length-joined-run h (start .args .times) (start .args .byte) (decimal-width .result) (decimal-width .ensures .0) in
+    let run = was-written text (c .before .before .put-run .result) _ (c .before .before .put-run .last .0)
+    (c .before .before .put-run .ensures)
+    (omega (arith, w, f, length-runText (start .args .times) (start .args .byte), decimal-width .ensures .0)) in
+    written (joinedText h text) (at + (decimal-width .result + 4)) (start .args .out .now) _ (omega (arith, n, f)) (omega (arith, n, w))
+    (two-lent (hexText h) (plus ∷ []) text (start .args .out .now) (put-hex .last .0) (put-bytes .last .0)
+    (c .before .before .put-run .last .0) at (at + 1) _ _ (sym (p .count)) refl (p .output) refl (put-bytes .ensures .output) refl
+    (run .output))
+
+pub put-joined-spec : {M : Type 1} → statement M
+put-joined-spec =
+    tie.close
+    (tie.spec
+    decimal-width-requires
+    add-after
+    returns
+    sub-if2
+    returns-2
+    put-hex-requires
+    sub-put-bytes
+    part-put-bytes-start
+    part-put-bytes-end
+    slice-aggregate-put-bytes
+    put-bytes-requires
+    add-put-run
+    sub-put-run
+    part-put-run-start
+    part-put-run-end
+    put-run-requires
+    add-result
+    same-length
+    returns-3)

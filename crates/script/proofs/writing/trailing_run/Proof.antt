@@ -1,0 +1,100 @@
+-- `script::writing::trailing_run` meets its contract: the bytes passed from the end, and the equal ones that follow them, make the whole run. Assumes nothing.
+use Prim.Native.Nat.{_+_, _-_, _≤_, zero-le}
+use mathlib.Core.Path.{_≡_, refl}
+use mathlib.Core.List.{reverse}
+use native.Mathlib.Omega.{arith}
+use lib.ListN.{length, drop, getD}
+use borrow.Author.Needs.{needs}
+use Rattle.script.specs.Shown.{equalFront, trailingRun}
+use Rattle.script.proofs.ShownLaws.{run-none, run-start, run-more, run-stop, run-end}
+use Rattle.script.proofs.writing.trailing_run.Statement.{statement}
+use Rattle.script.proofs.writing.trailing_run.Tie as tie
+
+abbrev Inv-loop : tie.InvT-loop
+Inv-loop bytes n last k₀ k =
+    (k ≤ n) × (k + equalFront last (drop k (reverse bytes)) ≡ trailingRun bytes)
+
+abbrev μ-loop : tie.MeasureT-loop
+μ-loop bytes n last k₀ k =
+    n - k
+
+returns : tie.Need-returns Inv-loop μ-loop
+returns c = (run-none (c .before .args .bytes .now) (c .if1 .taken), zero-le)
+
+sub-last : tie.Need-sub-last Inv-loop μ-loop
+sub-last c = search needs
+
+shared-slice-read-last : tie.Need-shared-slice-read-last Inv-loop μ-loop
+shared-slice-read-last c = search needs
+
+loop-holds : tie.Need-loop-holds Inv-loop μ-loop
+loop-holds c =
+    let start = c .before .before in
+    (zero-le, run-start (start .args .bytes .now) _ refl)
+
+sub-if2 : tie.Need-sub-if2 Inv-loop μ-loop
+sub-if2 c = search needs
+
+sub-if2-2 : tie.Need-sub-if2-2 Inv-loop μ-loop
+sub-if2-2 c = search needs
+
+shared-slice-read-if2 : tie.Need-shared-slice-read-if2 Inv-loop μ-loop
+shared-slice-read-if2 c = search needs
+
+returns-2 : tie.Need-returns-2 Inv-loop μ-loop
+returns-2 c =
+    let start = c .before .before .before .before .before .before in
+    let loop = c .before .before .before .loop in (
+      omega (arith, loop .inv .1, run-stop (start .args .bytes .now) _ (loop .k) (c .before .before .loop-test .taken) (c .if2 .taken)),
+      omega arith,
+    )
+
+add-k : tie.Need-add-k Inv-loop μ-loop
+add-k c = search needs
+
+loop-less : tie.Need-loop-less Inv-loop μ-loop
+loop-less c = search needs
+
+loop-again : tie.Need-loop-again Inv-loop μ-loop
+loop-again c =
+    let start = c .before .before .before .before .before .before in
+    let loop = c .before .before .before .loop in (
+      omega arith,
+      omega (
+        arith,
+        loop .inv .1,
+        run-more (start .args .bytes .now) _ (loop .k) (c .before .before .loop-test .taken)
+            (c .if2 .left),
+      ),
+    )
+
+returns-3 : tie.Need-returns-3 Inv-loop μ-loop
+returns-3 c =
+    let start = c .before .before .before .before in (
+      omega (
+        arith,
+        c .before .loop .inv .1,
+        run-end (start .args .bytes .now)
+            (getD (start .args .bytes .now) (length (start .args .bytes .now) - 1) 0) (c .before .loop .k) (c .loop-test .left),
+      ),
+      omega arith,
+    )
+
+pub trailing-run-spec : {M : Type 1} → statement M
+trailing-run-spec =
+    tie.close
+    (tie.spec
+    Inv-loop
+    μ-loop
+    returns
+    sub-last
+    shared-slice-read-last
+    loop-holds
+    sub-if2
+    sub-if2-2
+    shared-slice-read-if2
+    returns-2
+    add-k
+    loop-less
+    loop-again
+    returns-3)

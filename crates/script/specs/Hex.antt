@@ -1,0 +1,39 @@
+-- Bytes in hex, two digits a byte.
+use Prim.Native.Nat.{ℕ, _+_, _*_, _-_, _/_, _%_}
+use mathlib.Core.Bool.{Bool}
+use mathlib.Core.List.{List, [], _∷_, _++_}
+use lib.Dec.{ltb}
+use Rattle.script.specs.Scan.{pick, among}
+
+-- the value of a digit, "upper or lower case": `0` to `9`, `A` to `F`, `a` to `f`; 16 where the byte is none
+unfoldable pub hexDigit : ℕ → ℕ
+hexDigit b =
+    pick (among 48 57 b) (b - 48)
+    (pick (among 65 70 b) (b - 55)
+    (pick (among 97 102 b) (b - 87)
+    16))
+
+unfoldable pub isHex : ℕ → Bool
+isHex b = ltb (hexDigit b) 16
+
+-- the byte that two digits write
+unfoldable pub hexByte : ℕ → ℕ → ℕ
+hexByte high low = hexDigit high * 16 + hexDigit low
+
+-- the bytes that digits write, "two digits a byte"
+unfoldable pub pairs : List ℕ → List ℕ
+pairs [] = []
+pairs (a ∷ []) = []
+pairs (a ∷ b ∷ s) = hexByte a b ∷ pairs s
+
+-- the digit of a value below 16, lower case
+unfoldable pub hexLetter : ℕ → ℕ
+hexLetter v = pick (ltb v 10) (v + 48) (v + 87)
+
+unfoldable pub hexPair : ℕ → List ℕ
+hexPair b = hexLetter (b / 16) ∷ hexLetter (b % 16) ∷ []
+
+-- bytes as "lower-case hex"
+unfoldable pub hexText : List ℕ → List ℕ
+hexText [] = []
+hexText (b ∷ s) = hexPair b ++ hexText s

@@ -1,0 +1,6 @@
+pub mod Scan
+pub mod Decimal
+pub mod Hex
+pub mod Piece
+pub mod Shown
+pub mod Lines
