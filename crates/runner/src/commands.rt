@@ -1,17 +1,19 @@
 // A function for each command: its operands, the call, and the text of its answer.
 ghost use Prim.Native.Nat.{_≤_};
 ghost use lib.ListN.{length};
+ghost use Rattle.varint.specs.Varint.{sizeOf, writeOf, afterWrite, readOf};
 ghost use Rattle.runner.specs.Bounds.{saidCount};
+ghost use Rattle.runner.specs.Answers.{sizeParts, writeParts, readParts, Says};
 use crate::notes::Fault;
 use crate::operands::Operand;
-use crate::operands::has_operands;
-use crate::operands::operand_at;
 use crate::operands::read_operand;
-use crate::text::put_bytes_after;
-use crate::text::put_number;
-use crate::text::put_number_after;
+use script::lines::has_operands;
+use script::lines::word_at;
 use script::reading::Number;
 use script::reading::read_number;
+use script::writing::put_number;
+use script::writing::put_number_and_bytes;
+use script::writing::put_two_numbers;
 use varint::Got;
 use varint::Width;
 
@@ -25,7 +27,7 @@ pub enum Said {
 pub fn command(line: &[u8], operand: &mut [u8], out: &mut [u8]) -> Said
     ensures { λ r. ⌜ saidCount r ≤ length (now (out .entry)) ⌝ }
 {
-    let name = operand_at(line, 0);
+    let name = word_at(line, 0);
     if check::same(name, b"size") {
         return size(line, out);
     }
@@ -38,12 +40,6 @@ pub fn command(line: &[u8], operand: &mut [u8], out: &mut [u8]) -> Said
     Said::Error(Fault::NoCommand)
 }
 
-fn refused(number: u64, out: &mut [u8]) -> Said
-    ensures { λ r. ⌜ saidCount r ≤ length (now (out .entry)) ⌝ }
-{
-    Said::Refused(put_number(out, b"refused ", number), number)
-}
-
 // size VALUE
 fn size(line: &[u8], out: &mut [u8]) -> Said
     ensures { λ r. ⌜ saidCount r ≤ length (now (out .entry)) ⌝ }
@@ -51,12 +47,18 @@ fn size(line: &[u8], out: &mut [u8]) -> Said
     if !has_operands(line, 1) {
         return Said::Error(Fault::Count);
     }
-    let Number::Value(value) = read_number(operand_at(line, 1)) else {
+    let Number::Value(value) = read_number(word_at(line, 1)) else {
         return Said::Error(Fault::NoNumber);
     };
+    say_size(value, out)
+}
+
+fn say_size(value: u64, out: &mut [u8]) -> Said
+    ensures { λ r. ⌜ Says (sizeOf value) (sizeParts (sizeOf value)) r (now (out .entry)) (now (out .exit)) ⌝ }
+{
     match varint::size(value) {
         Width::Bytes(width) => Said::Answer(put_number(out, b"width ", width as u64)),
-        Width::Refused(number) => refused(number, out),
+        Width::Refused(number) => Said::Refused(put_number(out, b"refused ", number), number),
     }
 }
 
@@ -67,27 +69,29 @@ fn write(line: &[u8], operand: &mut [u8], out: &mut [u8]) -> Said
     if !has_operands(line, 2) {
         return Said::Error(Fault::Count);
     }
-    let Number::Value(value) = read_number(operand_at(line, 1)) else {
+    let Number::Value(value) = read_number(word_at(line, 1)) else {
         return Said::Error(Fault::NoNumber);
     };
-    match read_operand(operand_at(line, 2), operand) {
-        Operand::Bytes(n) => write_over(value, &mut operand[0..n], out),
+    match read_operand(word_at(line, 2), operand) {
+        Operand::Bytes(n) => say_write(value, &mut operand[0..n], out),
         Operand::Unread(fault) => Said::Error(fault),
     }
 }
 
-fn write_over(value: u64, buffer: &mut [u8], out: &mut [u8]) -> Said
-    ensures { λ r. ⌜ saidCount r ≤ length (now (out .entry)) ⌝ }
+fn say_write(value: u64, buffer: &mut [u8], out: &mut [u8]) -> Said
+    ensures { λ r. ⌜ Says (writeOf value (length (now (buffer .entry)))) (writeParts (writeOf value (length (now (buffer .entry)))) (afterWrite value (now (buffer .entry)))) r (now (out .entry)) (now (out .exit)) ⌝ }
 {
     match varint::write(value, buffer) {
-        Width::Bytes(width) => {
-            let n = put_number(out, b"width ", width as u64);
-            Said::Answer(put_bytes_after(out, n, buffer))
-        }
-        Width::Refused(number) => {
-            let n = put_number(out, b"refused ", number);
-            Said::Refused(put_bytes_after(out, n, buffer), number)
-        }
+        Width::Bytes(width) => Said::Answer(put_number_and_bytes(
+            out,
+            b"width ",
+            width as u64,
+            buffer,
+        )),
+        Width::Refused(number) => Said::Refused(
+            put_number_and_bytes(out, b"refused ", number, buffer),
+            number,
+        ),
     }
 }
 
@@ -98,20 +102,23 @@ fn read(line: &[u8], operand: &mut [u8], out: &mut [u8]) -> Said
     if !has_operands(line, 1) {
         return Said::Error(Fault::Count);
     }
-    match read_operand(operand_at(line, 1), operand) {
-        Operand::Bytes(n) => read_from(&operand[0..n], out),
+    match read_operand(word_at(line, 1), operand) {
+        Operand::Bytes(n) => say_read(&operand[0..n], out),
         Operand::Unread(fault) => Said::Error(fault),
     }
 }
 
-fn read_from(input: &[u8], out: &mut [u8]) -> Said
-    ensures { λ r. ⌜ saidCount r ≤ length (now (out .entry)) ⌝ }
+fn say_read(input: &[u8], out: &mut [u8]) -> Said
+    ensures { λ r. ⌜ Says (readOf (now (input .entry))) (readParts (readOf (now (input .entry)))) r (now (out .entry)) (now (out .exit)) ⌝ }
 {
     match varint::read(input) {
-        Got::Value(x) => {
-            let n = put_number(out, b"value ", x.value);
-            Said::Answer(put_number_after(out, n, b" width ", x.width as u64))
-        }
-        Got::Refused(number) => refused(number, out),
+        Got::Value(x) => Said::Answer(put_two_numbers(
+            out,
+            b"value ",
+            x.value,
+            b" width ",
+            x.width as u64,
+        )),
+        Got::Refused(number) => Said::Refused(put_number(out, b"refused ", number), number),
     }
 }

@@ -5,12 +5,12 @@ mod files;
 mod input;
 mod notes;
 mod operands;
-mod text;
 
 use commands::Said;
 use input::Input;
 use libc::STDOUT_FILENO;
 use notes::Fault;
+use script::writing::put_number;
 use script::writing::put_text;
 ghost use Prim.Native.Nat.{_≤_};
 ghost use lib.ListN.{length};
@@ -113,7 +113,7 @@ fn say(out: &mut [u8], n: usize)
 }
 
 fn error(number: u64, fault: Fault, notes: bool, out: &mut [u8]) {
-    let n = text::put_number(out, b"error ", number);
+    let n = put_number(out, b"error ", number);
     say(out, n);
     if notes {
         notes::explain_fault(fault);

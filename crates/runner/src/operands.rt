@@ -1,11 +1,9 @@
-// The operands of a line.
-ghost use Prim.Native.Nat.{_≤_, _<_};
+// Byte operands, which may be files.
+ghost use Prim.Native.Nat.{_≤_};
 ghost use lib.ListN.{length};
 ghost use Rattle.runner.specs.Bounds.{operandCount};
 use crate::files::read_file;
 use crate::notes::Fault;
-use script::lines::Word;
-use script::lines::find_word;
 use script::reading::Piece;
 use script::reading::piece_end;
 use script::reading::read_piece;
@@ -14,28 +12,6 @@ use script::reading::read_piece;
 pub enum Operand {
     Bytes(usize),
     Unread(Fault),
-}
-
-// Whether the line has just so many operands after its command.
-pub fn has_operands(line: &[u8], count: usize) -> bool
-    requires { ⌜ count < 100 ⌝ }
-{
-    is_there(line, count) & !is_there(line, count + 1)
-}
-
-fn is_there(line: &[u8], k: usize) -> bool {
-    match find_word(line, k) {
-        Word::At { start: _, end: _ } => true,
-        Word::Missing => false,
-    }
-}
-
-// The operand with k words before it, empty where there is none; 0 is the command itself.
-pub fn operand_at(line: &[u8], k: usize) -> &[u8] {
-    match find_word(line, k) {
-        Word::At { start, end } => &line[start..end],
-        Word::Missing => &line[0..0],
-    }
 }
 
 // Reads a byte operand: pieces joined by `+`. No command hands bytes back yet, so `_` stands for none.

@@ -4,6 +4,7 @@ pub mod DecimalLaws
 pub mod HexLaws
 pub mod PieceLaws
 pub mod ShownLaws
+pub mod AnswerLaws
 pub mod ReadBack
 pub mod ShownBack
 pub mod Samples

@@ -5,8 +5,8 @@ use mathlib.Core.List.{List}
 use native.Mathlib.Omega.{arith}
 use lib.ListN.{length}
 use borrow.Author.Tests.{lt-ltb, le-ltb}
-use Rattle.script.specs.Scan.{findOf, Found}
-use Rattle.script.specs.Lines.{space, wordFrom, wordOf, Placed}
+use Rattle.script.specs.Scan.{space, findOf, Found}
+use Rattle.script.specs.Lines.{wordFrom, wordOf, Placed}
 use Rattle.script.specs.declared.lines.Word.the-variants as the-word
 
 -- a word stands from `start` to `end`; the word asked for has `left` words between

@@ -3,4 +3,5 @@ pub mod Decimal
 pub mod Hex
 pub mod Piece
 pub mod Shown
+pub mod Answers
 pub mod Lines

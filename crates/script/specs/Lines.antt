@@ -1,15 +1,13 @@
 -- Lines: "a command and its operands, parted by single spaces".
-use Prim.Native.Nat.{ℕ, zero, suc, _+_, _≤_}
+use Prim.Native.Nat.{ℕ, zero, suc, _+_, _-_, _≤_}
 use mathlib.Core.Path.{_≡_}
-use mathlib.Core.List.{List}
-use lib.ListN.{length}
+use mathlib.Core.Bool.{Bool, true, false, not, _&&_}
+use mathlib.Core.List.{List, []}
+use lib.ListN.{length, take, drop}
 use lib.Dec.{ltb}
-use Rattle.script.specs.Scan.{pick, findOf}
+use Rattle.script.specs.Scan.{space, pick, findOf}
 use Rattle.script.specs.declared.lines.Word.{Word}
 use Rattle.script.specs.declared.lines.Word.the-variants as the-word
-
-abbrev pub space : ℕ
-space = 32
 
 -- the word with k words before it, of those from a place on: each ends at the next space or at the line's end
 unfoldable pub wordFrom : List ℕ → ℕ → ℕ → Word
@@ -18,6 +16,19 @@ wordFrom line (suc k) at = pick (ltb (findOf line at space) (length line)) (word
 
 unfoldable pub wordOf : List ℕ → ℕ → Word
 wordOf line k = wordFrom line k 0
+
+abbrev pub isThere : Word → Bool
+isThere (the-word.At start end) = true
+isThere the-word.Missing = false
+
+-- a word's bytes
+abbrev pub wordText : List ℕ → Word → List ℕ
+wordText line (the-word.At start end) = take (end - start) (drop start line)
+wordText line the-word.Missing = []
+
+-- just so many operands after the command: the last of them is there, and none after it
+unfoldable pub hasOperands : List ℕ → ℕ → Bool
+hasOperands line n = isThere (wordOf line n) && not (isThere (wordOf line (n + 1)))
 
 abbrev pub Inside : ℕ → Word → Type 0
 Inside n (the-word.At start end) = (start ≤ end) × (end ≤ n)

@@ -6,7 +6,10 @@ use mathlib.Core.List.{List, [], _∷_}
 use lib.ListN.{length, drop}
 use lib.Dec.{leb, eqb}
 
--- the bytes that a script gives a meaning to: `"`, `*`, `+`, `-`, `@` and `_`
+-- the bytes that a script gives a meaning to: the space, `"`, `*`, `+`, `-`, `@` and `_`
+abbrev pub space : ℕ
+space = 32
+
 abbrev pub quote : ℕ
 quote = 34
 

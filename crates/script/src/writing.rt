@@ -1,11 +1,14 @@
 // Writing: text over the front of an output. A writer gives the text's length; where the text does not fit it writes nothing
 // and gives 0. Later bytes of the output stay.
 ghost use mathlib.Core.Path.{_≡_};
+ghost use mathlib.Core.List.{[], _∷_};
 ghost use Prim.Native.Nat.{_≤_, _<_};
 ghost use lib.ListN.{length};
 ghost use Rattle.wire.specs.Front.{front};
 ghost use Rattle.script.specs.Decimal.{decimalWidth, decimalDigits, decimalText};
 ghost use Rattle.script.specs.Hex.{hexLetter, hexPair, hexText};
+ghost use Rattle.script.specs.Scan.{space};
+ghost use Rattle.script.specs.Answers.{WrittenAll};
 ghost use Rattle.script.specs.Shown.{Written, trailingRun, runText, joinedText, shownText};
 
 // Writes the bytes themselves.
@@ -159,4 +162,29 @@ pub fn put_operand(out: &mut [u8], bytes: &[u8]) -> usize
         return put_run(out, run as u64, last);
     }
     put_joined(out, &bytes[..head], run as u64, last)
+}
+
+// Writes words and a number.
+pub fn put_number(out: &mut [u8], words: &[u8], number: u64) -> usize
+    ensures { λ r. ⌜ WrittenAll (now (words .entry) ∷ decimalText number ∷ []) r (now (out .entry)) (now (out .exit)) ⌝ }
+{
+    let n = put_text(out, words);
+    n + put_decimal(&mut out[n..], number)
+}
+
+// Writes words and a number, twice.
+pub fn put_two_numbers(out: &mut [u8], words: &[u8], number: u64, more: &[u8], second: u64) -> usize
+    ensures { λ r. ⌜ WrittenAll (now (words .entry) ∷ decimalText number ∷ now (more .entry) ∷ decimalText second ∷ []) r (now (out .entry)) (now (out .exit)) ⌝ }
+{
+    let n = put_number(out, words, number);
+    n + put_number(&mut out[n..], more, second)
+}
+
+// Writes words, a number, a space and bytes.
+pub fn put_number_and_bytes(out: &mut [u8], words: &[u8], number: u64, bytes: &[u8]) -> usize
+    ensures { λ r. ⌜ WrittenAll (now (words .entry) ∷ decimalText number ∷ (space ∷ []) ∷ shownText (now (bytes .entry)) ∷ []) r (now (out .entry)) (now (out .exit)) ⌝ }
+{
+    let n = put_number(out, words, number);
+    let m = n + put_text(&mut out[n..], b" ");
+    m + put_operand(&mut out[m..], bytes)
 }

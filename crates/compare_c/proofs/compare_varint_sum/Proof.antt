@@ -28,7 +28,7 @@ seen c =
     let loop = c .before .before .before .before .before .before .loop in
     let x = c .before .x in
     let read = c .before .before .before .read in
-    rw (part-to-end (now (args .input)) (loop .at), (x .given .1)) at (read .ensures)
+    rw (part-to-end (now (args .input)) (loop .at), x .given .1) at (read .ensures)
 
 bounds : (c : tie.After-known-told Inv-loop μ-loop) → (1 ≤ (c .before .x .given .0 .0 .width)) × ((c .before .before .before .before .before .before .loop .at) + (c .before .x .given .0 .0 .width) ≤ length (now (c .before .before .before .before .before .before .before .before .args .input)))
 bounds c =
@@ -52,7 +52,7 @@ read-requires : tie.Need-read-requires Inv-loop μ-loop
 read-requires c κs = search needs
 
 enum-known-x : tie.Need-enum-known-x Inv-loop μ-loop
-enum-known-x c = omega (arith, (c .match .keys1))
+enum-known-x c = omega (arith, c .match .keys1)
 
 wrapping-add-u64-requires : tie.Need-wrapping-add-u64-requires Inv-loop μ-loop
 wrapping-add-u64-requires c κs = tt
@@ -75,14 +75,14 @@ loop-again c =
     goes-on (now (args .input)) (loop .at) (loop .sum) (loop .inv) (x .given .0 .0) (wrapping-add-u64 .result) (loop-test .taken) (sym (seen p .is)) (wrapping-add-u64 .ensures) (b .0) (b .1)
 
 enum-told : tie.Need-enum-told Inv-loop μ-loop
-enum-told c = omega (arith, (c .match .keys2))
+enum-told c = omega (arith, c .match .keys2)
 
 returns : tie.Need-returns Inv-loop μ-loop
 returns c =
     let args = c .before .before .before .before .before .before .before .args in
     let loop = c .before .before .before .before .before .loop in
     let read = c .before .before .read in
-    let f = rw (part-to-end (now (args .input)) (loop .at), (c .enum-told .given .1)) at (read .ensures) in
+    let f = rw (part-to-end (now (args .input)) (loop .at), c .enum-told .given .1) at (read .ensures) in
     stops (now (args .input)) (loop .at) (loop .sum) (loop .inv) _ (sym (f .is))
 
 returns-2 : tie.Need-returns-2 Inv-loop μ-loop

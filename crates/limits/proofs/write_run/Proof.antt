@@ -1,10 +1,8 @@
+-- `write_run` ends: less is left after each turn. Assumes nothing.
 use native.Mathlib.Omega.{arith}
 use borrow.Author.Needs.{needs}
 use Rattle.limits.proofs.write_run.Statement.{statement}
 use Rattle.limits.proofs.write_run.Tie as tie
-use Rattle.limits.proofs.write_run.Reads as reads
-use Rattle.limits.proofs.write_run.Lts as lts
-use Rattle.limits.proofs.write_page.Reads as write-page-reads
 
 abbrev Inv-loop : tie.InvT-loop
 Inv-loop fd byte times left₀ left =
@@ -14,31 +12,24 @@ abbrev μ-loop : tie.MeasureT-loop
 μ-loop fd byte times left₀ left =
     left
 
--- src/main.rt:15:5
 loop-holds : tie.Need-loop-holds Inv-loop μ-loop
 loop-holds c = tt
 
--- src/main.rt:16:9
 write-page-requires : tie.Need-write-page-requires Inv-loop μ-loop
 write-page-requires c κs = search needs
 
--- src/main.rt:17:9
 sub-left : tie.Need-sub-left Inv-loop μ-loop
 sub-left c = omega arith
 
--- src/main.rt:15:5
 loop-less : tie.Need-loop-less Inv-loop μ-loop
 loop-less c = omega arith
 
--- src/main.rt:15:5
 loop-again : tie.Need-loop-again Inv-loop μ-loop
 loop-again c = tt
 
--- src/main.rt:19:5
 write-page-requires-2 : tie.Need-write-page-requires-2 Inv-loop μ-loop
 write-page-requires-2 c κs = search needs
 
--- src/main.rt:13:1
 returns : tie.Need-returns Inv-loop μ-loop
 returns c = tt
 

@@ -1,121 +1,90 @@
+-- `answer` writes out no more of the output than the command said. Assumes nothing.
 use native.Mathlib.Omega.{arith}
 use borrow.Author.Needs.{needs}
 use Rattle.runner.proofs.answer.Statement.{statement}
 use Rattle.runner.proofs.answer.Tie as tie
-use Rattle.runner.proofs.answer.Reads as reads
-use Rattle.runner.proofs.answer.Lts as lts
-use Rattle.runner.proofs.commands.command.Reads as command-reads
-use Rattle.runner.proofs.error.Reads as error-reads
-use Rattle.runner.proofs.notes.explain_refusal.Reads as explain-refusal-reads
-use Rattle.runner.proofs.say.Reads as say-reads
 
--- src/lib.rt:67:9
 returns : tie.Need-returns
 returns c = search needs
 
--- src/lib.rt:69:8
 shared-slice-read-if2 : tie.Need-shared-slice-read-if2
 shared-slice-read-if2 c = search needs
 
--- src/lib.rt:70:9
 returns-2 : tie.Need-returns-2
 returns-2 c = search needs
 
--- src/lib.rt:73:9
 error-requires : tie.Need-error-requires
 error-requires c κs = search needs
 
--- src/lib.rt:74:9
 same-length : tie.Need-same-length
 same-length c = search needs
 
--- src/lib.rt:74:9
 returns-3 : tie.Need-returns-3
 returns-3 c = search needs
 
--- src/lib.rt:76:9
 command-requires : tie.Need-command-requires
 command-requires c κs = search needs
 
--- src/lib.rt:78:22
 enum-known-said : tie.Need-enum-known-said
 enum-known-said c = search needs
 
--- src/lib.rt:78:28
 say-requires : tie.Need-say-requires
 say-requires c κs =
     let said = c .before .before .said in
     let command = c .before .before .before .before .before .before .before .before .command in
-    omega (arith, rw ((said .given .1)) at ((command .ensures)))
+    omega (arith, rw (said .given .1) at (command .ensures))
 
--- src/lib.rt:79:23
 enum-known-said-2 : tie.Need-enum-known-said-2
 enum-known-said-2 c = search needs
 
--- src/lib.rt:80:13
 say-requires-2 : tie.Need-say-requires-2
 say-requires-2 c κs =
     let said2 = c .before .before .said2 in
     let command = c .before .before .before .before .before .before .before .before .command in
-    omega (arith, rw ((said2 .given .1)) at ((command .ensures)))
+    omega (arith, rw (said2 .given .1) at (command .ensures))
 
--- src/lib.rt:82:17
 explain-refusal-requires : tie.Need-explain-refusal-requires
 explain-refusal-requires c κs = search needs
 
--- src/lib.rt:85:21
 enum-known-said-3 : tie.Need-enum-known-said-3
 enum-known-said-3 c = search needs
 
--- src/lib.rt:85:31
 error-requires-2 : tie.Need-error-requires-2
 error-requires-2 c κs = search needs
 
--- src/lib.rt:65:1
 same-length-2 : tie.Need-same-length-2
 same-length-2 c = search needs
 
--- src/lib.rt:65:1
 same-length-3 : tie.Need-same-length-3
 same-length-3 c = search needs
 
--- src/lib.rt:65:1
 returns-4 : tie.Need-returns-4
 returns-4 c = search needs
 
--- src/lib.rt:65:1
 same-length-4 : tie.Need-same-length-4
 same-length-4 c = search needs
 
--- src/lib.rt:65:1
 same-length-5 : tie.Need-same-length-5
 same-length-5 c = search needs
 
--- src/lib.rt:65:1
 returns-5 : tie.Need-returns-5
 returns-5 c = search needs
 
--- src/lib.rt:65:1
 same-length-6 : tie.Need-same-length-6
 same-length-6 c = search needs
 
--- src/lib.rt:65:1
 same-length-7 : tie.Need-same-length-7
 same-length-7 c = search needs
 
--- src/lib.rt:65:1
 returns-6 : tie.Need-returns-6
 returns-6 c = search needs
 
--- src/lib.rt:65:1
 same-length-8 : tie.Need-same-length-8
 same-length-8 c = search needs
 
--- src/lib.rt:65:1
 same-length-9 : tie.Need-same-length-9
 same-length-9 c = search needs
 
--- src/lib.rt:65:1
 returns-7 : tie.Need-returns-7
 returns-7 c = search needs
 

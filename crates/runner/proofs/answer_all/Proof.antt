@@ -1,14 +1,10 @@
-use native.Mathlib.Omega.{arith}
+-- `answer_all` is safe and ends: the turns left fall, and the buffers keep their lengths. Assumes nothing.
 use mathlib.Core.Path.{_≡_, refl, _∙_}
 use lib.ListN.{length}
 use Rattle.runner.specs.Bounds.{Held}
 use borrow.Author.Needs.{needs}
 use Rattle.runner.proofs.answer_all.Statement.{statement}
 use Rattle.runner.proofs.answer_all.Tie as tie
-use Rattle.runner.proofs.answer_all.Reads as reads
-use Rattle.runner.proofs.answer_all.Lts as lts
-use Rattle.runner.proofs.input.start.Reads as start-reads
-use Rattle.runner.proofs.turn.Reads as turn-reads
 
 abbrev Inv-loop : tie.InvT-loop
 Inv-loop fd notes chunk₀ line₀ operand₀ out₀ turns₀ s₀ chunk line operand out turns s =
@@ -18,72 +14,56 @@ abbrev μ-loop : tie.MeasureT-loop
 μ-loop fd notes chunk₀ line₀ operand₀ out₀ turns₀ s₀ chunk line operand out turns s =
     turns
 
--- src/lib.rt:39:9
 start-requires : tie.Need-start-requires Inv-loop μ-loop
 start-requires c κs = search needs
 
--- src/lib.rt:40:5
 loop-holds : tie.Need-loop-holds Inv-loop μ-loop
 loop-holds c = (refl, refl, refl, refl, search needs)
 
--- src/lib.rt:41:9
 turn-requires : tie.Need-turn-requires Inv-loop μ-loop
 turn-requires c κs =
     let loop = c .before .before .before .before .before .loop in
-    rw ((loop .inv .0), (loop .inv .1)) ((loop .inv .4))
+    rw (loop .inv .0, loop .inv .1) (loop .inv .4)
 
--- src/lib.rt:45:9
 sub-turns : tie.Need-sub-turns Inv-loop μ-loop
 sub-turns c = search needs
 
--- src/lib.rt:40:5
 loop-less : tie.Need-loop-less Inv-loop μ-loop
 loop-less c = search needs
 
--- src/lib.rt:40:5
 loop-again : tie.Need-loop-again Inv-loop μ-loop
 loop-again c =
     let turn = c .before .before .before .before .before .before .before .before .before .turn in
     let loop = c .before .before .before .before .before .before .before .before .before .before .before .before .before .before .before .loop in
-    ((turn .kept .1 .1 .0) ∙ (loop .inv .0), (turn .kept .1 .1 .1 .0) ∙ (loop .inv .1), (turn .kept .1 .1 .1 .1 .0) ∙ (loop .inv .2), (turn .kept .1 .1 .1 .1 .1 .0) ∙ (loop .inv .3), rw ((loop .inv .0), (loop .inv .1)) at ((turn .ensures)))
+    ((turn .kept .1 .1 .0) ∙ (loop .inv .0), (turn .kept .1 .1 .1 .0) ∙ (loop .inv .1), (turn .kept .1 .1 .1 .1 .0) ∙ (loop .inv .2), (turn .kept .1 .1 .1 .1 .1 .0) ∙ (loop .inv .3), rw (loop .inv .0, loop .inv .1) at (turn .ensures))
 
--- src/lib.rt:37:1
 same-length : tie.Need-same-length Inv-loop μ-loop
 same-length c = search needs
 
--- src/lib.rt:37:1
 same-length-2 : tie.Need-same-length-2 Inv-loop μ-loop
 same-length-2 c = search needs
 
--- src/lib.rt:37:1
 same-length-3 : tie.Need-same-length-3 Inv-loop μ-loop
 same-length-3 c = search needs
 
--- src/lib.rt:37:1
 same-length-4 : tie.Need-same-length-4 Inv-loop μ-loop
 same-length-4 c = search needs
 
--- src/lib.rt:37:1
 returns : tie.Need-returns Inv-loop μ-loop
 returns c = search needs
 
--- src/lib.rt:37:1
 same-length-5 : tie.Need-same-length-5 Inv-loop μ-loop
 same-length-5 c = search needs
 
--- src/lib.rt:37:1
 same-length-6 : tie.Need-same-length-6 Inv-loop μ-loop
 same-length-6 c = search needs
 
--- src/lib.rt:37:1
 same-length-7 : tie.Need-same-length-7 Inv-loop μ-loop
 same-length-7 c = search needs
 
--- src/lib.rt:37:1
 same-length-8 : tie.Need-same-length-8 Inv-loop μ-loop
 same-length-8 c = search needs
 
--- src/lib.rt:37:1
 returns-2 : tie.Need-returns-2 Inv-loop μ-loop
 returns-2 c = search needs
 

@@ -64,7 +64,7 @@ returns c =
     let wide = c .before .before .before .before .before .before .wide in
     let wide2 = c .before .before .before .before .wide2 in
     let wide3 = c .before .before .wide3 in
-    (omega (arith, number-four (now (args .b)) (args .at) pre, (wide .ensures), (wide2 .ensures), (wide3 .ensures), (c .wide4 .ensures)), search needs)
+    (omega (arith, number-four (now (args .b)) (args .at) pre, wide .ensures, wide2 .ensures, wide3 .ensures, c .wide4 .ensures), search needs)
 
 pub be32-spec : {M : Type 1} → statement M
 be32-spec =

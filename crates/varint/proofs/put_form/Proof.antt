@@ -42,7 +42,7 @@ returns c =
     let w = one-byte c in
     let e : (c .before .before .args .value) % 256 ≡ (c .before .before .args .value) = omega (arith, w .1) in
     let z : 0 * 64 + (c .before .before .args .value) ≡ (c .before .before .args .value) = omega arith in
-    rw ((c .if1 .taken), z, e) (stores ((c .before .before .args .value) ∷ []) (now (c .before .before .args .out)) (w .0))
+    rw (c .if1 .taken, z, e) (stores ((c .before .before .args .value) ∷ []) (now (c .before .before .args .out)) (w .0))
 
 array-read-w16 : tie.Need-array-read-w16
 array-read-w16 c = search needs

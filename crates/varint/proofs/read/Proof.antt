@@ -24,7 +24,7 @@ low-bytes c =
     let args = c .before .before .before .before .before .before .before .before .before .before .before .before .before .before .args in
     let if5 = c .before .before .before .before .if5 in
     low-four (wide .result) (wide2 .result) (wide3 .result) (c .wide4 .result) (wide2 .ensures .1) (wide3 .ensures .1) (c .wide4 .ensures .1)
-    ∙ rw ((wide .ensures .0), (wide2 .ensures .0), (wide3 .ensures .0), (c .wide4 .ensures .0), number-four (now (args .input)) 0 (if5 .left))
+    ∙ rw (wide .ensures .0, wide2 .ensures .0, wide3 .ensures .0, c .wide4 .ensures .0, number-four (now (args .input)) 0 (if5 .left))
 
 array-read-if1 : tie.Need-array-read-if1
 array-read-if1 c = search needs
@@ -52,7 +52,7 @@ returns-2 c =
     let wide = c .before .before .wide in
     let s = now (args .input) in
     let f = first (c .before .before) in
-    rw (c .whole .ensures) (found s 0 (f .1 ∙ (if2 .taken)) (lit< tt) (if1 .left) ((wide .result) % 64) (omega (arith, number-one s (if1 .left), (wide .ensures))))
+    rw (c .whole .ensures) (found s 0 (f .1 ∙ (if2 .taken)) (lit< tt) (if1 .left) ((wide .result) % 64) (omega (arith, number-one s (if1 .left), wide .ensures)))
 
 array-read-if3 : tie.Need-array-read-if3
 array-read-if3 c = search needs
@@ -91,7 +91,7 @@ returns-4 c =
     let wide2 = c .before .before .wide2 in
     let s = now (args .input) in
     let f = first (c .before .before .before .before .before .before) in
-    rw (c .whole2 .ensures) (found s 1 (f .1 ∙ (if4 .taken)) (lit< tt) (if3 .left) _ (omega (arith, number-two s (if3 .left), (wide .ensures), (wide2 .ensures))))
+    rw (c .whole2 .ensures) (found s 1 (f .1 ∙ (if4 .taken)) (lit< tt) (if3 .left) _ (omega (arith, number-two s (if3 .left), wide .ensures, wide2 .ensures)))
 
 array-read-if5 : tie.Need-array-read-if5
 array-read-if5 c = search needs

@@ -33,8 +33,8 @@ put-form-requires c κs =
     let width-of = c .before .before .width-of in
     let if2 = c .before .if2 in
     let args = c .before .before .before .before .before .before .args in
-    let e = (class-of .ensures) in
-    ((if1 .left), rw (width-of .ensures) at (if2 .left), rw e (class-holds (args .value) (rw e at (if1 .left))))
+    let e = class-of .ensures in
+    (if1 .left, rw (width-of .ensures) at (if2 .left), rw e (class-holds (args .value) (rw e at (if1 .left))))
 
 same-length : tie.Need-same-length
 same-length c = search needs

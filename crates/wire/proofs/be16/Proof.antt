@@ -32,7 +32,7 @@ returns c =
     let args = c .before .before .before .before .before .args in
     let pre = c .before .before .before .before .before .pre in
     let wide = c .before .before .wide in
-    omega (arith, number-two (now (args .b)) pre, (wide .ensures), c .wide2 .ensures)
+    omega (arith, number-two (now (args .b)) pre, wide .ensures, c .wide2 .ensures)
 
 pub be16-spec : {M : Type 1} → statement M
 be16-spec =

@@ -1,84 +1,62 @@
+-- `read_one` gives no more bytes than the output has. Assumes nothing.
 use borrow.Author.Needs.{needs}
 use Rattle.runner.proofs.operands.read_one.Statement.{statement}
 use Rattle.runner.proofs.operands.read_one.Tie as tie
-use Rattle.runner.proofs.operands.read_one.Reads as reads
-use Rattle.runner.proofs.operands.read_one.Lts as lts
-use Rattle.runner.proofs.files.read_file.Reads as read-file-reads
-use Rattle.script.proofs.reading.read_piece.Reads as read-piece-reads
 
--- src/operands.rt:68:9
 returns : tie.Need-returns
 returns c = search needs
 
--- src/operands.rt:70:29
 slice-aggregate-read-piece : tie.Need-slice-aggregate-read-piece
 slice-aggregate-read-piece c = search needs
 
--- src/operands.rt:70:11
 read-piece-requires : tie.Need-read-piece-requires
 read-piece-requires c κs = search needs
 
--- src/operands.rt:71:22
 enum-known-n : tie.Need-enum-known-n
 enum-known-n c = search needs
 
--- src/operands.rt:72:34
 enum-told : tie.Need-enum-told
 enum-told c = search needs
 
--- src/operands.rt:72:34
 sub-read-file : tie.Need-sub-read-file
 sub-read-file c = search needs
 
--- src/operands.rt:72:34
 part-read-file-start : tie.Need-part-read-file-start
 part-read-file-start c = search needs
 
--- src/operands.rt:72:34
 part-read-file-end : tie.Need-part-read-file-end
 part-read-file-end c = search needs
 
--- src/operands.rt:72:24
 read-file-requires : tie.Need-read-file-requires
 read-file-requires c κs = search needs
 
--- src/operands.rt:73:45
 enum-told-2 : tie.Need-enum-told-2
 enum-told-2 c = search needs
 
--- src/operands.rt:74:43
 enum-told-3 : tie.Need-enum-told-3
 enum-told-3 c = search needs
 
--- src/operands.rt:64:1
 same-length : tie.Need-same-length
 same-length c = search needs
 
--- src/operands.rt:64:1
 returns-2 : tie.Need-returns-2
-returns-2 c = rw ((c .before .n .given .1)) at ((c .before .before .before .before .before .read-piece .ensures .within))
+returns-2 c = rw (c .before .n .given .1) at (c .before .before .before .before .before .read-piece .ensures .within)
 
--- src/operands.rt:64:1
 same-length-2 : tie.Need-same-length-2
 same-length-2 c = search needs
 
--- src/operands.rt:64:1
 returns-3 : tie.Need-returns-3
 returns-3 c = search needs
 
--- src/operands.rt:64:1
 same-length-3 : tie.Need-same-length-3
 same-length-3 c = search needs
 
--- src/operands.rt:64:1
 returns-4 : tie.Need-returns-4
 returns-4 c = search needs
 
--- src/operands.rt:64:1
 same-length-4 : tie.Need-same-length-4
 same-length-4 c = search needs
 
--- src/operands.rt:64:1
 returns-5 : tie.Need-returns-5
 returns-5 c = search needs
 

@@ -1,3 +1,4 @@
+-- `read_operand` ends: each piece leaves less of the text; the bytes read so far fit the output. Assumes nothing.
 use Prim.Native.Nat.{_≤_, _-_, _+_}
 use native.Mathlib.Omega.{arith}
 use mathlib.Core.Path.{_≡_, refl}
@@ -6,10 +7,6 @@ use Rattle.wire.proofs.ListLaws.{length-part-to-end}
 use borrow.Author.Needs.{needs}
 use Rattle.runner.proofs.operands.read_operand.Statement.{statement}
 use Rattle.runner.proofs.operands.read_operand.Tie as tie
-use Rattle.runner.proofs.operands.read_operand.Reads as reads
-use Rattle.runner.proofs.operands.read_operand.Lts as lts
-use Rattle.runner.proofs.operands.read_one.Reads as read-one-reads
-use Rattle.script.proofs.reading.piece_end.Reads as piece-end-reads
 
 abbrev Inv-loop : tie.InvT-loop
 Inv-loop text out₀ at₀ n₀ out at n =
@@ -19,98 +16,76 @@ abbrev μ-loop : tie.MeasureT-loop
 μ-loop text out₀ at₀ n₀ out at n =
     length text - at
 
-within : (c : tie.After-known-told Inv-loop μ-loop) → (c .before .before .before .before .before .before .before .before .before .loop .n) + (c .before .k .given .0 .0) ≤ length ((c .before .before .before .before .before .before .before .before .before .loop .out))
+within : (c : tie.After-known-told Inv-loop μ-loop) → (c .before .before .before .before .before .before .before .before .before .loop .n) + (c .before .k .given .0 .0) ≤ length (c .before .before .before .before .before .before .before .before .before .loop .out)
 within c =
     let k = c .before .k in
     let loop = c .before .before .before .before .before .before .before .before .before .loop in
     let read-one = c .before .before .before .before .before .read-one in
-    omega (arith, rw ((k .given .1), length-part-to-end ((loop .out)) ((loop .n))) at ((read-one .ensures)))
+    omega (arith, rw (k .given .1, length-part-to-end (loop .out) (loop .n)) at (read-one .ensures))
 
--- src/operands.rt:44:5
 loop-holds : tie.Need-loop-holds Inv-loop μ-loop
 loop-holds c = (omega arith, omega arith, refl)
 
--- src/operands.rt:45:13
 piece-end-requires : tie.Need-piece-end-requires Inv-loop μ-loop
 piece-end-requires c κs = search needs
 
--- src/operands.rt:46:24
 sub-read-one : tie.Need-sub-read-one Inv-loop μ-loop
 sub-read-one c = search needs
 
--- src/operands.rt:46:24
 part-read-one-start : tie.Need-part-read-one-start Inv-loop μ-loop
 part-read-one-start c = search needs
 
--- src/operands.rt:46:24
 part-read-one-end : tie.Need-part-read-one-end Inv-loop μ-loop
 part-read-one-end c = search needs
 
--- src/operands.rt:46:40
 sub-read-one-2 : tie.Need-sub-read-one-2 Inv-loop μ-loop
 sub-read-one-2 c = search needs
 
--- src/operands.rt:46:40
 part-read-one-start-2 : tie.Need-part-read-one-start-2 Inv-loop μ-loop
 part-read-one-start-2 c = search needs
 
--- src/operands.rt:46:40
 part-read-one-end-2 : tie.Need-part-read-one-end-2 Inv-loop μ-loop
 part-read-one-end-2 c = search needs
 
--- src/operands.rt:46:15
 read-one-requires : tie.Need-read-one-requires Inv-loop μ-loop
 read-one-requires c κs = search needs
 
--- src/operands.rt:47:28
 enum-known-k : tie.Need-enum-known-k Inv-loop μ-loop
-enum-known-k c = omega (arith, (c .match .keys1))
+enum-known-k c = omega (arith, c .match .keys1)
 
--- src/operands.rt:48:17
 add-n : tie.Need-add-n Inv-loop μ-loop
 add-n c = omega (arith, within c)
 
--- src/operands.rt:50:29
 enum-known-fault : tie.Need-enum-known-fault Inv-loop μ-loop
-enum-known-fault c = omega (arith, (c .match .keys2))
+enum-known-fault c = omega (arith, c .match .keys2)
 
--- src/operands.rt:51:17
 same-length : tie.Need-same-length Inv-loop μ-loop
 same-length c = search needs
 
--- src/operands.rt:51:17
 returns : tie.Need-returns Inv-loop μ-loop
 returns c = search needs
 
--- src/operands.rt:55:13
 same-length-2 : tie.Need-same-length-2 Inv-loop μ-loop
 same-length-2 c = search needs
 
--- src/operands.rt:55:13
 returns-2 : tie.Need-returns-2 Inv-loop μ-loop
 returns-2 c = omega (arith, within (c .before))
 
--- src/operands.rt:57:12
 shared-slice-read-if2 : tie.Need-shared-slice-read-if2 Inv-loop μ-loop
 shared-slice-read-if2 c = search needs
 
--- src/operands.rt:58:13
 same-length-3 : tie.Need-same-length-3 Inv-loop μ-loop
 same-length-3 c = search needs
 
--- src/operands.rt:58:13
 returns-3 : tie.Need-returns-3 Inv-loop μ-loop
 returns-3 c = search needs
 
--- src/operands.rt:60:14
 add-at : tie.Need-add-at Inv-loop μ-loop
 add-at c = search needs
 
--- src/operands.rt:44:5
 loop-less : tie.Need-loop-less Inv-loop μ-loop
 loop-less c = search needs
 
--- src/operands.rt:44:5
 loop-again : tie.Need-loop-again Inv-loop μ-loop
 loop-again c = (omega arith, omega (arith, within (c .before .before .before)), search needs)
 

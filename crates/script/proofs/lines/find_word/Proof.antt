@@ -1,12 +1,10 @@
+-- `find_word` keeps `Passing`: where the present word stands, and that the word asked for is as many words on. Assumes nothing.
 use native.Mathlib.Omega.{arith}
 use denote.Ref.{now}
 use Rattle.script.proofs.LineLaws.{Passing, starts, misses, goes-on, stands}
 use borrow.Author.Needs.{needs}
 use Rattle.script.proofs.lines.find_word.Statement.{statement}
 use Rattle.script.proofs.lines.find_word.Tie as tie
-use Rattle.script.proofs.lines.find_word.Reads as reads
-use Rattle.script.proofs.lines.find_word.Lts as lts
-use Rattle.script.proofs.reading.find.Reads as find-reads
 
 abbrev Inv-loop : tie.InvT-loop
 Inv-loop line k start₀ end₀ left₀ start end left =
@@ -16,53 +14,44 @@ abbrev μ-loop : tie.MeasureT-loop
 μ-loop line k start₀ end₀ left₀ start end left =
     left
 
--- src/lines.rt:18:9
 find-requires : tie.Need-find-requires Inv-loop μ-loop
 find-requires c κs = search needs
 
--- src/lines.rt:20:5
 loop-holds : tie.Need-loop-holds Inv-loop μ-loop
-loop-holds c = starts (now ((c .before .before .args .line))) ((c .before .before .args .k)) ((c .find .result)) ((c .find .ensures))
+loop-holds c = starts (now (c .before .before .args .line)) (c .before .before .args .k) (c .find .result) (c .find .ensures)
 
--- src/lines.rt:22:13
 returns : tie.Need-returns Inv-loop μ-loop
 returns c =
     let args = c .before .before .before .before .before .args in
     let loop = c .before .before .loop in
     let loop-test = c .before .loop-test in
-    misses (now ((args .line))) ((args .k)) ((loop .start)) ((loop .end)) ((loop .left)) ((loop .inv)) ((loop-test .taken)) ((c .if1 .taken))
+    misses (now (args .line)) (args .k) (loop .start) (loop .end) (loop .left) (loop .inv) (loop-test .taken) (c .if1 .taken)
 
--- src/lines.rt:24:17
 add-start : tie.Need-add-start Inv-loop μ-loop
 add-start c = omega arith
 
--- src/lines.rt:25:9
 find-requires-2 : tie.Need-find-requires-2 Inv-loop μ-loop
 find-requires-2 c κs = search needs
 
--- src/lines.rt:26:9
 sub-left : tie.Need-sub-left Inv-loop μ-loop
 sub-left c = omega arith
 
--- src/lines.rt:20:5
 loop-less : tie.Need-loop-less Inv-loop μ-loop
 loop-less c = omega arith
 
--- src/lines.rt:20:5
 loop-again : tie.Need-loop-again Inv-loop μ-loop
 loop-again c =
     let args = c .before .before .before .before .before .before .args in
     let loop = c .before .before .before .loop in
     let loop-test = c .before .before .loop-test in
     let if1 = c .before .if1 in
-    goes-on (now ((args .line))) ((args .k)) ((loop .start)) ((loop .end)) ((loop .left)) ((loop .inv)) ((c .find2 .result)) ((loop-test .taken)) ((if1 .left)) ((c .find2 .ensures))
+    goes-on (now (args .line)) (args .k) (loop .start) (loop .end) (loop .left) (loop .inv) (c .find2 .result) (loop-test .taken) (if1 .left) (c .find2 .ensures)
 
--- src/lines.rt:14:1
 returns-2 : tie.Need-returns-2 Inv-loop μ-loop
 returns-2 c =
     let args = c .before .before .before .before .args in
     let loop = c .before .loop in
-    stands (now ((args .line))) ((args .k)) ((loop .start)) ((loop .end)) ((loop .left)) ((loop .inv)) ((c .loop-test .left))
+    stands (now (args .line)) (args .k) (loop .start) (loop .end) (loop .left) (loop .inv) (c .loop-test .left)
 
 pub find-word-spec : {M : Type 1} → statement M
 find-word-spec =

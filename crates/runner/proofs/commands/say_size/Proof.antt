@@ -1,0 +1,73 @@
+-- `say_size` says what `size` answers: in each case the text is that of its parts. Assumes nothing.
+use mathlib.Core.Path.{_≡_}
+use mathlib.Core.List.{[], _∷_}
+use denote.Ref.{now}
+use Rattle.wire.specs.Answer.{result, refused}
+use Rattle.varint.specs.Varint.{sizeOf}
+use Rattle.script.specs.Decimal.{decimalText}
+use Rattle.runner.specs.Answers.{widthWord, refusedWord}
+use Rattle.runner.proofs.AnswerLaws.{says-result, says-refused}
+use borrow.Author.Needs.{needs}
+use Rattle.runner.proofs.commands.say_size.Statement.{statement}
+use Rattle.runner.proofs.commands.say_size.Tie as tie
+
+size-requires : tie.Need-size-requires
+size-requires c κs = search needs
+
+enum-known-width : tie.Need-enum-known-width
+enum-known-width c = search needs
+
+slice-aggregate-put-number : tie.Need-slice-aggregate-put-number
+slice-aggregate-put-number c = search needs
+
+put-number-requires : tie.Need-put-number-requires
+put-number-requires c κs = search needs
+
+enum-known-number : tie.Need-enum-known-number
+enum-known-number c = search needs
+
+slice-aggregate-put-number-2 : tie.Need-slice-aggregate-put-number-2
+slice-aggregate-put-number-2 c = search needs
+
+put-number-requires-2 : tie.Need-put-number-requires-2
+put-number-requires-2 c κs = search needs
+
+same-length : tie.Need-same-length
+same-length c = search needs
+
+returns : tie.Need-returns
+returns c =
+    let width = c .before .before .before .before .before .before .width in
+    let args = c .before .before .before .before .before .before .before .before .before .before .args in
+    let size = c .before .before .before .before .before .before .before .before .size in
+    let put-number = c .before .before .put-number in
+    let e : result (width .given .0 .0) ≡ sizeOf (args .value) = rw (width .given .1) at (size .ensures .is) in
+    rw (← e) (says-result (widthWord ∷ decimalText (width .given .0 .0) ∷ []) (put-number .result) (now (args .out)) (put-number .last .0) (put-number .ensures) (width .given .0 .0))
+
+same-length-2 : tie.Need-same-length-2
+same-length-2 c = search needs
+
+returns-2 : tie.Need-returns-2
+returns-2 c =
+    let number = c .before .before .before .before .before .before .number in
+    let args = c .before .before .before .before .before .before .before .before .before .before .args in
+    let size = c .before .before .before .before .before .before .before .before .size in
+    let put-number2 = c .before .before .put-number2 in
+    let e : refused (number .given .0 .0) ≡ sizeOf (args .value) = rw (number .given .1) at (size .ensures .is) in
+    rw (← e) (says-refused (refusedWord ∷ decimalText (number .given .0 .0) ∷ []) (put-number2 .result) (now (args .out)) (put-number2 .last .0) (put-number2 .ensures) (number .given .0 .0))
+
+pub say-size-spec : {M : Type 1} → statement M
+say-size-spec =
+    tie.close
+    (tie.spec
+    size-requires
+    enum-known-width
+    slice-aggregate-put-number
+    put-number-requires
+    enum-known-number
+    slice-aggregate-put-number-2
+    put-number-requires-2
+    same-length
+    returns
+    same-length-2
+    returns-2)
