@@ -1,7 +1,7 @@
 -- Pieces: where they end, what each kind stands for, and the answers. Assumes nothing.
 use Prim.Native.Nat.{ℕ, suc, _+_, _-_, _%_, _≤_, _<_, zero-le, min}
 use mathlib.Core.Path.{_≡_, refl, ap, subst}
-use mathlib.Core.Bool.{true, false, _&&_}
+use mathlib.Core.Bool.{true, false, _&&_, cond}
 use mathlib.Core.List.{List, [], _∷_}
 use native.Mathlib.Nat.{le-refl}
 use native.Mathlib.Numerals.{add-one}
@@ -11,7 +11,7 @@ use lib.Seq.{drop-cons}
 use lib.Dec.{ltb, eqb}
 use borrow.Author.Tests.{lt-ltb, le-ltb, le-leb, lt-leb, eq-eqb, ne-eqb}
 use Rattle.wire.specs.Front.{front}
-use Rattle.script.specs.Scan.{pick, all, isOnly, begins, distance, quote, star, plus, dash, at, underscore, findOf, Found}
+use Rattle.script.specs.Scan.{all, isOnly, begins, distance, quote, star, plus, dash, at, underscore, findOf, Found}
 use Rattle.script.specs.Decimal.{numberOf}
 use Rattle.script.specs.Hex.{isHex, hexByte, pairs}
 use Rattle.script.specs.Piece.{pieceLength, pieceEnd, Meaning, bytes, file, malformed, isPlain, inner, textOf, hexOf, timesOf, runOf, pieceOf, answerOf, outputOf, Read}
@@ -181,7 +181,7 @@ module _ (s last : List ℕ) where
       piece-text q = rw (e, f, begins-first at s h, ne-eqb (getD s 0 0) at p, begins-first quote s h, eq-eqb (getD s 0 0) quote q)
 
       module _ (q : getD s 0 0 ≡ quote → ⊥) where
-        other : pick (ltb (distance star s) (length s)) (runOf s (distance star s)) (hexOf s) ≡ pieceOf s last
+        other : cond (ltb (distance star s) (length s)) (runOf s (distance star s)) (hexOf s) ≡ pieceOf s last
         unfolding pieceOf
         other = rw (e, f, begins-first at s h, ne-eqb (getD s 0 0) at p, begins-first quote s h, ne-eqb (getD s 0 0) quote q)
 

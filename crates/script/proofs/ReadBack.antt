@@ -11,12 +11,13 @@ use borrow.Author.Tests.{lt-ltb, le-ltb, ne-eqb}
 use Rattle.wire.specs.Numbers.{digits, number}
 use Rattle.wire.proofs.ListLaws.{lt-or-le}
 use Rattle.wire.proofs.NumberLaws.{above, number-digits}
+use Rattle.wire.proofs.SumLaws.{and-left, and-right}
 use Rattle.script.specs.Scan.{all, distance, quote, star, dash, at, underscore}
 use Rattle.script.specs.Decimal.{isDecimal, decimalValue, numberOf, decimalLetter, places, decimalWidth, decimalDigits, decimalText}
 use Rattle.script.specs.Hex.{isHex, hexDigit, hexText}
 use Rattle.script.specs.Piece.{bytes, hexOf, pieceOf}
 use Rattle.script.specs.declared.reading.Number.the-variants as the
-use Rattle.script.proofs.ScanLaws.{all-at, and-left, and-right, and-true, only-not}
+use Rattle.script.proofs.ScanLaws.{all-at, and-true, only-not}
 use Rattle.script.proofs.DecimalLaws.{decimal-is, valueOf, limit, number-value, digits-snoc, length-decimalText}
 use Rattle.script.proofs.HexLaws.{Bytes, length-hexText, hexText-hex, pairs-hexText}
 use Rattle.script.proofs.PieceLaws.{hex-bytes, piece-hex}

@@ -1,7 +1,7 @@
 -- Tests and searches, one element at a time. Assumes nothing.
 use Prim.Native.Nat.{ℕ, zero, suc, _+_, _-_, _≤_, _<_}
 use mathlib.Core.Path.{_≡_, refl}
-use mathlib.Core.Bool.{Bool, true, false, _&&_, false≢true}
+use mathlib.Core.Bool.{Bool, true, false, _&&_, false≢true, cond}
 use mathlib.Core.List.{List, [], _∷_}
 use native.Mathlib.Nat.{not-suc-le-zero, le-of-suc-le-suc}
 use native.Mathlib.Numerals.{add-one}
@@ -10,18 +10,11 @@ use lib.ListN.{length, drop, getD, length-drop, drop-of-length-le}
 use lib.Seq.{drop-cons}
 use lib.Dec.{leb, eqb}
 use borrow.Author.Tests.{le-leb, lt-leb, eq-eqb, ne-eqb}
-use Rattle.script.specs.Scan.{pick, among, all, isOnly, begins, distance, findOf, Found}
+use Rattle.wire.proofs.SumLaws.{and-left, and-right}
+use Rattle.script.specs.Scan.{among, all, isOnly, begins, distance, findOf, Found}
 
 pub and-true : (a b : Bool) → a ≡ true → b ≡ true → a && b ≡ true
 and-true a b p q = rw (p, q)
-
-pub and-left : (a b : Bool) → a && b ≡ true → a ≡ true
-and-left true b h = refl
-and-left false b h = h
-
-pub and-right : (a b : Bool) → a && b ≡ true → b ≡ true
-and-right true b h = h
-and-right false b h = absurd (false≢true h)
 
 pub and-not-left : (a b : Bool) → a ≡ false → a && b ≡ false
 and-not-left a b p = rw p
@@ -82,7 +75,7 @@ unfolding distance
 distance-le b [] = omega arith
 distance-le b (x ∷ s) = go (eqb x b) (distance-le b s)
   where
-    go : (t : Bool) → distance b s ≤ length s → pick t 0 (suc (distance b s)) ≤ suc (length s)
+    go : (t : Bool) → distance b s ≤ length s → cond t 0 (suc (distance b s)) ≤ suc (length s)
     go true h = omega arith
     go false h = omega arith
 

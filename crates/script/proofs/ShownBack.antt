@@ -1,7 +1,7 @@
 -- Bytes as an answer shows them, read as pieces joined by `+`, are the bytes again. Assumes nothing.
 use Prim.Native.Nat.{ℕ, zero, suc, _+_, _-_, _/_, _%_, _^_, _≤_, _<_, zero-le, min}
 use mathlib.Core.Path.{_≡_, refl, sym, ap, ap₂, _∙_}
-use mathlib.Core.Bool.{Bool, true, false, false≢true}
+use mathlib.Core.Bool.{Bool, true, false, false≢true, cond}
 use mathlib.Core.Logic.{⊎-elim}
 use mathlib.Core.List.{List, [], _∷_, _++_, reverse}
 use native.Mathlib.Nat.{not-suc-le-zero, le-of-suc-le-suc}
@@ -11,7 +11,7 @@ use lib.Seq.{take-at, drop-append-add, getD-take, getD-drop, ext-getD}
 use lib.Dec.{ltb, eqb}
 use borrow.Author.Tests.{lt-ltb, le-ltb, ne-eqb, eqb-true}
 use Rattle.wire.proofs.ListLaws.{lt-or-le}
-use Rattle.script.specs.Scan.{pick, all, isOnly, distance, quote, star, plus, dash, at, underscore}
+use Rattle.script.specs.Scan.{all, isOnly, distance, quote, star, plus, dash, at, underscore}
 use Rattle.script.specs.Decimal.{isDecimal, numberOf, decimalText}
 use Rattle.script.specs.Hex.{hexDigit, isHex, hexPair, hexText}
 use Rattle.script.specs.Piece.{pieceLength, Meaning, bytes, file, malformed, timesOf, runOf, pieceOf}
@@ -34,7 +34,7 @@ after malformed m = malformed
 unfoldable pub operandOf : ℕ → List ℕ → List ℕ → Meaning
 operandOf zero t last = malformed
 operandOf (suc n) t last =
-    pick (ltb (pieceLength t) (length t))
+    cond (ltb (pieceLength t) (length t))
     (after (pieceOf (take (pieceLength t) t) last) (operandOf n (drop (pieceLength t + 1) t) last))
     (pieceOf t last)
 
@@ -148,7 +148,7 @@ unfolding equalFront
 equal-at b [] j h = absurd (not-suc-le-zero h)
 equal-at b (x ∷ r) j h = go (λ i k. equal-at b r i k) (eqb x b) refl j h
   where
-    go : ((i : ℕ) → i < equalFront b r → getD r i 0 ≡ b) → (t : Bool) → eqb x b ≡ t → (j : ℕ) → j < pick t (suc (equalFront b r)) 0 → getD (x ∷ r) j 0 ≡ b
+    go : ((i : ℕ) → i < equalFront b r → getD r i 0 ≡ b) → (t : Bool) → eqb x b ≡ t → (j : ℕ) → j < cond t (suc (equalFront b r)) 0 → getD (x ∷ r) j 0 ≡ b
     go ih true e zero k = eqb-true x b e
     go ih true e (suc j) k = ih j (le-of-suc-le-suc k)
     go ih false e j k = absurd (not-suc-le-zero k)
@@ -158,7 +158,7 @@ unfolding equalFront
 equal-le b [] = zero-le
 equal-le b (x ∷ r) = go (eqb x b) (equal-le b r)
   where
-    go : (t : Bool) → equalFront b r ≤ length r → pick t (suc (equalFront b r)) 0 ≤ suc (length r)
+    go : (t : Bool) → equalFront b r ≤ length r → cond t (suc (equalFront b r)) 0 ≤ suc (length r)
     go true h = omega arith
     go false h = zero-le
 

@@ -1,10 +1,10 @@
 -- Numbers in decimal.
 use Prim.Native.Nat.{ℕ, zero, suc, _+_, _-_, _/_, _^_}
-use mathlib.Core.Bool.{Bool, _&&_}
+use mathlib.Core.Bool.{Bool, _&&_, cond}
 use mathlib.Core.List.{List, [], _∷_, map}
 use lib.Dec.{ltb}
 use Rattle.wire.specs.Numbers.{digits, number}
-use Rattle.script.specs.Scan.{pick, among, all}
+use Rattle.script.specs.Scan.{among, all}
 use Rattle.script.specs.declared.reading.Number.{Number}
 use Rattle.script.specs.declared.reading.Number.the-variants as the
 
@@ -19,7 +19,7 @@ decimalValue b = b - 48
 unfoldable pub numberOf : List ℕ → Number
 numberOf [] = the.Malformed
 numberOf (b ∷ s) =
-    pick (all isDecimal (b ∷ s) && ltb (number 10 (map decimalValue (b ∷ s))) (2 ^ 64))
+    cond (all isDecimal (b ∷ s) && ltb (number 10 (map decimalValue (b ∷ s))) (2 ^ 64))
     (the.Value (number 10 (map decimalValue (b ∷ s))))
     the.Malformed
 
@@ -30,7 +30,7 @@ decimalLetter d = 48 + d
 -- how many digits a number has that has at most n; 0 has one
 unfoldable pub places : ℕ → ℕ → ℕ
 places zero v = 0
-places (suc n) v = pick (ltb v 10) 1 (suc (places n (v / 10)))
+places (suc n) v = cond (ltb v 10) 1 (suc (places n (v / 10)))
 
 -- a number below 2^64 has at most 20
 unfoldable pub decimalWidth : ℕ → ℕ

@@ -1,18 +1,18 @@
 -- Lines: "a command and its operands, parted by single spaces".
 use Prim.Native.Nat.{ℕ, zero, suc, _+_, _-_, _≤_}
 use mathlib.Core.Path.{_≡_}
-use mathlib.Core.Bool.{Bool, true, false, not, _&&_}
+use mathlib.Core.Bool.{Bool, true, false, not, _&&_, cond}
 use mathlib.Core.List.{List, []}
 use lib.ListN.{length, take, drop}
 use lib.Dec.{ltb}
-use Rattle.script.specs.Scan.{space, pick, findOf}
+use Rattle.script.specs.Scan.{space, findOf}
 use Rattle.script.specs.declared.lines.Word.{Word}
 use Rattle.script.specs.declared.lines.Word.the-variants as the-word
 
 -- the word with k words before it, of those from a place on: each ends at the next space or at the line's end
 unfoldable pub wordFrom : List ℕ → ℕ → ℕ → Word
 wordFrom line zero at = the-word.At at (findOf line at space)
-wordFrom line (suc k) at = pick (ltb (findOf line at space) (length line)) (wordFrom line k (findOf line at space + 1)) the-word.Missing
+wordFrom line (suc k) at = cond (ltb (findOf line at space) (length line)) (wordFrom line k (findOf line at space + 1)) the-word.Missing
 
 unfoldable pub wordOf : List ℕ → ℕ → Word
 wordOf line k = wordFrom line k 0

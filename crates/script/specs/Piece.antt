@@ -1,12 +1,12 @@
 -- Pieces of a byte operand: "one or more pieces joined by `+`".
 use Prim.Native.Nat.{ℕ, suc, _+_, _-_, _%_, _≤_, min}
 use mathlib.Core.Path.{_≡_}
-use mathlib.Core.Bool.{Bool, not, _&&_}
+use mathlib.Core.Bool.{Bool, not, _&&_, cond}
 use mathlib.Core.List.{List, [], _∷_}
 use lib.ListN.{length, take, drop, getD, replicate}
 use lib.Dec.{ltb, leb, eqb}
 use Rattle.wire.specs.Front.{front}
-use Rattle.script.specs.Scan.{pick, among, all, isOnly, begins, distance, quote, star, plus, dash, at, underscore}
+use Rattle.script.specs.Scan.{among, all, isOnly, begins, distance, quote, star, plus, dash, at, underscore}
 use Rattle.script.specs.Decimal.{numberOf}
 use Rattle.script.specs.Hex.{isHex, hexByte, pairs}
 use Rattle.script.specs.declared.reading.Number.{Number}
@@ -17,7 +17,7 @@ use Rattle.script.specs.declared.reading.Piece.the-variants as piece
 -- a text ends after the next `"`, any other piece before the next `+`; or at the operand's end
 unfoldable pub pieceLength : List ℕ → ℕ
 pieceLength [] = 0
-pieceLength (b ∷ s) = pick (eqb b quote) (suc (min (suc (distance quote s)) (length s))) (distance plus (b ∷ s))
+pieceLength (b ∷ s) = cond (eqb b quote) (suc (min (suc (distance quote s)) (length s))) (distance plus (b ∷ s))
 
 -- where the piece that begins at a place ends
 unfoldable pub pieceEnd : List ℕ → ℕ → ℕ
@@ -40,21 +40,21 @@ inner text = take (length text - 2) (drop 1 text)
 -- `"example.org"`, of a piece that begins with a quote: it ends with another, and the bytes between them are plain
 unfoldable pub textOf : List ℕ → Meaning
 textOf text =
-    pick (leb 2 (length text) && eqb (getD text (length text - 1) 0) quote && all isPlain (inner text))
+    cond (leb 2 (length text) && eqb (getD text (length text - 1) 0) quote && all isPlain (inner text))
     (bytes (inner text))
     malformed
 
 -- `0a1b`: "hex, two digits a byte", one byte or more
 unfoldable pub hexOf : List ℕ → Meaning
 hexOf text =
-    pick (ltb 0 (length text) && eqb (length text % 2) 0 && all isHex text)
+    cond (ltb 0 (length text) && eqb (length text % 2) 0 && all isHex text)
     (bytes (pairs text))
     malformed
 
 -- "a byte, so many times": the byte is two hex digits
 unfoldable pub timesOf : ℕ → List ℕ → Meaning
 timesOf n digits =
-    pick (eqb (length digits) 2 && all isHex digits)
+    cond (eqb (length digits) 2 && all isHex digits)
     (bytes (replicate n (hexByte (getD digits 0 0) (getD digits 1 0))))
     malformed
 
@@ -69,22 +69,22 @@ runOf text place = onNumber (numberOf (take place text)) (λ n. timesOf n (drop 
 -- the table of pieces; `last` is "the bytes of the last answer that handed some back"
 unfoldable pub pieceOf : List ℕ → List ℕ → Meaning
 pieceOf text last =
-    pick (isOnly dash text) (bytes [])
-    (pick (isOnly underscore text) (bytes last)
-    (pick (begins at text) file
-    (pick (begins quote text) (textOf text)
-    (pick (ltb (distance star text) (length text)) (runOf text (distance star text))
+    cond (isOnly dash text) (bytes [])
+    (cond (isOnly underscore text) (bytes last)
+    (cond (begins at text) file
+    (cond (begins quote text) (textOf text)
+    (cond (ltb (distance star text) (length text)) (runOf text (distance star text))
     (hexOf text)))))
 
 -- the answer, by what a piece stands for and the room
 unfoldable pub answerOf : Meaning → ℕ → Piece
-answerOf (bytes s) room = pick (leb (length s) room) (piece.Bytes (length s)) piece.TooLong
+answerOf (bytes s) room = cond (leb (length s) room) (piece.Bytes (length s)) piece.TooLong
 answerOf file room = piece.File
 answerOf malformed room = piece.Malformed
 
 -- the output then: the bytes over its front, where they fit
 unfoldable pub outputOf : Meaning → List ℕ → List ℕ
-outputOf (bytes s) out = pick (leb (length s) (length out)) (front s out) out
+outputOf (bytes s) out = cond (leb (length s) (length out)) (front s out) out
 outputOf file out = out
 outputOf malformed out = out
 

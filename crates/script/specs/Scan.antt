@@ -1,7 +1,7 @@
 -- Tests and searches on bytes.
 use Prim.Native.Nat.{ℕ, suc, _+_, _-_, _≤_}
 use mathlib.Core.Path.{_≡_}
-use mathlib.Core.Bool.{Bool, true, false, _&&_}
+use mathlib.Core.Bool.{Bool, true, false, _&&_, cond}
 use mathlib.Core.List.{List, [], _∷_}
 use lib.ListN.{length, drop}
 use lib.Dec.{leb, eqb}
@@ -28,11 +28,6 @@ at = 64
 abbrev pub underscore : ℕ
 underscore = 95
 
--- the first where the test holds, else the second
-abbrev pub pick : {A : Type 0} → Bool → A → A → A
-pick true a b = a
-pick false a b = b
-
 -- from the lowest to the highest, both included
 abbrev pub among : ℕ → ℕ → ℕ → Bool
 among low high b = leb low b && leb b high
@@ -56,7 +51,7 @@ begins b (x ∷ xs) = eqb x b
 -- how many elements stand before the first that equals b: all of them where none does
 unfoldable pub distance : ℕ → List ℕ → ℕ
 distance b [] = 0
-distance b (x ∷ xs) = pick (eqb x b) 0 (suc (distance b xs))
+distance b (x ∷ xs) = cond (eqb x b) 0 (suc (distance b xs))
 
 -- the place of the first b at or after a place
 unfoldable pub findOf : List ℕ → ℕ → ℕ → ℕ
