@@ -1,16 +1,9 @@
 -- Bounds that the functions of this crate keep. What the system reads and writes has no contract; that of the text is in `script`.
-use Prim.Native.Nat.{ℕ, _≤_}
-use Rattle.runner.specs.declared.input.Input.{Input}
+use Prim.Native.Nat.{ℕ}
 use Rattle.runner.specs.declared.operands.Operand.{Operand}
 use Rattle.runner.specs.declared.operands.Operand.the-variants as the-operand
 use Rattle.runner.specs.declared.commands.Said.{Said}
 use Rattle.runner.specs.declared.commands.Said.the-variants as said
-
--- the bytes still to be taken lie in the chunk, and those taken in the line
-pub record Held (chunk line : ℕ) (s : Input) : Type 0 where
-  pub order : s .start ≤ s .end
-  pub read : s .end ≤ chunk
-  pub taken : s .length ≤ line
 
 -- how many bytes an operand has
 abbrev pub operandCount : Operand → ℕ

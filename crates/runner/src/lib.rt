@@ -2,19 +2,20 @@
 // `script`, that of each call in its own crate; here are the calls of the system, and a function for each command.
 mod commands;
 mod files;
-mod input;
 mod notes;
 mod operands;
 
 use commands::Said;
-use input::Input;
 use libc::STDOUT_FILENO;
 use notes::Fault;
+use script::input;
+use script::input::Input;
 use script::writing::put_number;
 use script::writing::put_text;
+ghost use mathlib.Core.Path.{_≡_};
 ghost use Prim.Native.Nat.{_≤_};
 ghost use lib.ListN.{length};
-ghost use Rattle.runner.specs.Bounds.{Held};
+ghost use Rattle.script.specs.Input.{Held};
 
 // The script language allows a line of 524,288 bytes and an operand of 131,072. The longest answer is one operand in hex with
 // words around it.
@@ -56,7 +57,19 @@ fn answer_all(
     }
 }
 
-// Takes what the chunk has of the line, after reading once where the chunk is used up; answers the line where it is whole.
+// Reads once where the chunk is used up.
+fn fill(fd: i32, chunk: &mut [u8], s: Input) -> Input
+    requires { ⌜ (s .start ≤ s .end) × (s .end ≤ length (now chunk)) ⌝ }
+    ensures { λ r. ⌜ (r .start ≤ r .end) × (r .end ≤ length (now (chunk .entry))) × (r .length ≡ s .length) ⌝ }
+{
+    if s.start < s.end {
+        return s;
+    }
+    let got = libc::read(fd, chunk);
+    input::fill(s, io::count(got, chunk))
+}
+
+// Takes what the chunk has of the line, and answers the line where it is whole.
 fn turn(
     fd: i32,
     notes: bool,
@@ -69,7 +82,7 @@ fn turn(
     requires { ⌜ Held (length (now chunk)) (length (now line)) s ⌝ }
     ensures { λ r. ⌜ Held (length (now (chunk .entry))) (length (now (line .entry))) r ⌝ }
 {
-    let filled = input::fill(fd, chunk, s);
+    let filled = fill(fd, chunk, s);
     let taken = input::take(chunk, line, filled);
     if taken.whole {
         let n = taken.length;

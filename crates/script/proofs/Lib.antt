@@ -1,5 +1,6 @@
 pub mod ScanLaws
 pub mod LineLaws
+pub mod InputLaws
 pub mod DecimalLaws
 pub mod HexLaws
 pub mod PieceLaws

@@ -5,3 +5,4 @@ pub mod Piece
 pub mod Shown
 pub mod Answers
 pub mod Lines
+pub mod Input

@@ -1,7 +1,8 @@
 -- `answer_all` is safe and ends: the turns left fall, and the buffers keep their lengths. Assumes nothing.
 use mathlib.Core.Path.{_≡_, refl, _∙_}
 use lib.ListN.{length}
-use Rattle.runner.specs.Bounds.{Held}
+use Rattle.script.specs.Input.{Held}
+use Rattle.script.proofs.InputLaws.{start-held}
 use borrow.Author.Needs.{needs}
 use Rattle.runner.proofs.answer_all.Statement.{statement}
 use Rattle.runner.proofs.answer_all.Tie as tie
@@ -18,7 +19,7 @@ start-requires : tie.Need-start-requires Inv-loop μ-loop
 start-requires c κs = search needs
 
 loop-holds : tie.Need-loop-holds Inv-loop μ-loop
-loop-holds c = (refl, refl, refl, refl, search needs)
+loop-holds c = (refl, refl, refl, refl, rw (c .start .ensures) (start-held _ _))
 
 turn-requires : tie.Need-turn-requires Inv-loop μ-loop
 turn-requires c κs =

@@ -1,9 +1,10 @@
-// The lines of a script, from what the system reads: a chunk at a time, each byte copied to the line once.
+// The lines of a script, from what is read of it chunk by chunk. Each byte is copied to the line once, and a line that is too long
+// is passed over up to its line feed.
 ghost use mathlib.Core.Path.{_≡_};
 ghost use Prim.Native.Nat.{_≤_};
 ghost use lib.ListN.{length};
-ghost use Rattle.runner.specs.Bounds.{Held};
-use script::reading::find;
+ghost use Rattle.script.specs.Input.{startOf, filledOf, endedOf, nextLineOf, passedOf, Held, Appended, Taken};
+use crate::reading::find;
 
 pub struct Input {
     pub start: usize, // the chunk's bytes from start to end are still to be taken
@@ -16,7 +17,7 @@ pub struct Input {
 }
 
 pub fn start() -> Input
-    ensures { λ r. ⌜ (r .start ≡ 0) × (r .end ≡ 0) × (r .length ≡ 0) ⌝ }
+    ensures { λ r. ⌜ r ≡ startOf ⌝ }
 {
     Input {
         start: 0,
@@ -29,18 +30,12 @@ pub fn start() -> Input
     }
 }
 
-// Reads once where the chunk is used up. The last line may lack its line feed.
-pub fn fill(fd: i32, chunk: &mut [u8], s: Input) -> Input
-    requires { ⌜ (s .start ≤ s .end) × (s .end ≤ length (now chunk)) ⌝ }
-    ensures { λ r. ⌜ (r .start ≤ r .end) × (r .end ≤ length (now (chunk .entry))) × (r .length ≡ s .length) ⌝ }
+// The chunk is used up, and n bytes have been read to its front: none at the script's end.
+pub fn fill(s: Input, n: usize) -> Input
+    ensures { λ r. ⌜ r ≡ filledOf s n ⌝ }
 {
-    if s.start < s.end {
-        return s;
-    }
-    let got = libc::read(fd, chunk);
-    let n = io::count(got, chunk);
     if n == 0 {
-        return ended(s);
+        return end(s);
     }
     Input {
         start: 0,
@@ -49,14 +44,24 @@ pub fn fill(fd: i32, chunk: &mut [u8], s: Input) -> Input
     }
 }
 
-fn ended(s: Input) -> Input
-    ensures { λ r. ⌜ (r .start ≡ 0) × (r .end ≡ 0) × (r .length ≡ s .length) ⌝ }
+// At the script's end what has been taken is a line, though it lacks its line feed.
+fn end(s: Input) -> Input
+    ensures { λ r. ⌜ r ≡ endedOf s ⌝ }
 {
-    let whole = s.long | (0 < s.length);
+    if s.long {
+        return Input {
+            start: 0,
+            end: 0,
+            whole: true,
+            over: true,
+            ..s
+        };
+    }
+    let begun = 0 < s.length;
     Input {
         start: 0,
         end: 0,
-        whole,
+        whole: begun,
         over: true,
         ..s
     }
@@ -65,19 +70,19 @@ fn ended(s: Input) -> Input
 // Moves bytes of the chunk to the line, up to the next line feed.
 pub fn take(chunk: &[u8], line: &mut [u8], s: Input) -> Input
     requires { ⌜ Held (length (now chunk)) (length (now line)) s ⌝ }
-    ensures { λ r. ⌜ Held (length (now (chunk .entry))) (length (now (line .entry))) r ⌝ }
+    ensures { λ r. ⌜ Taken (now (chunk .entry)) s r (now (line .entry)) (now (line .exit)) ⌝ }
 {
     let start = s.start;
     let end = s.end;
-    let rest = &chunk[start..end];
-    let n = find(rest, 0, b'\n');
-    let longer = append(line, &rest[0..n], s);
-    passed(longer, start + n)
+    let pending = &chunk[start..end];
+    let n = find(pending, 0, b'\n');
+    let longer = append(line, &pending[0..n], s);
+    pass(longer, start + n)
 }
 
 fn append(line: &mut [u8], part: &[u8], s: Input) -> Input
     requires { ⌜ s .length ≤ length (now line) ⌝ }
-    ensures { λ r. ⌜ (r .start ≡ s .start) × (r .end ≡ s .end) × (r .length ≤ length (now (line .entry))) ⌝ }
+    ensures { λ r. ⌜ Appended (now (part .entry)) s r (now (line .entry)) (now (line .exit)) ⌝ }
 {
     let length = s.length;
     if line.len() - length < part.len() {
@@ -91,9 +96,9 @@ fn append(line: &mut [u8], part: &[u8], s: Input) -> Input
 }
 
 // The chunk's bytes before a place are taken; where the chunk has one there, it is a line feed.
-fn passed(s: Input, place: usize) -> Input
+fn pass(s: Input, place: usize) -> Input
     requires { ⌜ place ≤ s .end ⌝ }
-    ensures { λ r. ⌜ (r .start ≤ r .end) × (r .end ≡ s .end) × (r .length ≡ s .length) ⌝ }
+    ensures { λ r. ⌜ r ≡ passedOf s place ⌝ }
 {
     if place < s.end {
         return Input {
@@ -106,7 +111,7 @@ fn passed(s: Input, place: usize) -> Input
 }
 
 pub fn next_line(s: Input) -> Input
-    ensures { λ r. ⌜ (r .start ≡ s .start) × (r .end ≡ s .end) × (r .length ≡ 0) ⌝ }
+    ensures { λ r. ⌜ r ≡ nextLineOf s ⌝ }
 {
     Input {
         length: 0,
