@@ -7,8 +7,8 @@ ghost use Rattle.runner.specs.Answers.{sizeParts, writeParts, readParts,
 use crate::notes::Fault;
 use crate::operands::Operand;
 use crate::operands::read_operand;
-use script::lines::has_operands;
-use script::lines::word_at;
+use lines::words::has_operands;
+use lines::words::word_at;
 use script::reading::Number;
 use script::reading::read_number;
 use script::writing::put_number;

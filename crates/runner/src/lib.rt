@@ -7,15 +7,15 @@ mod operands;
 
 use commands::Said;
 use libc::STDOUT_FILENO;
+use lines::input;
+use lines::input::Input;
 use notes::Fault;
-use script::input;
-use script::input::Input;
 use script::writing::put_number;
 use script::writing::put_text;
 ghost use mathlib.Core.Path.{_≡_};
 ghost use Prim.Native.Nat.{_≤_};
 ghost use lib.ListN.{length};
-ghost use Rattle.script.specs.Input.{Held};
+ghost use Rattle.lines.specs.Input.{Held};
 
 // The script language allows a line of 524,288 bytes and an operand of 131,072. The longest answer is one operand in hex with
 // words around it.

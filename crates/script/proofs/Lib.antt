@@ -1,6 +1,4 @@
 pub mod ScanLaws
-pub mod LineLaws
-pub mod InputLaws
 pub mod DecimalLaws
 pub mod HexLaws
 pub mod PieceLaws

@@ -4,5 +4,3 @@ pub mod Hex
 pub mod Piece
 pub mod Shown
 pub mod Answers
-pub mod Lines
-pub mod Input

@@ -1,6 +1,4 @@
 // The text of bench scripts, on lent bytes. The definitions that the contracts cite stand in specs/, a rule of the script
 // language each.
-pub mod input; // the lines of a script
-pub mod lines; // the words of a line
 pub mod reading; // numbers and the pieces of byte operands
 pub mod writing; // numbers and bytes as an answer shows them

@@ -1,8 +1,8 @@
 -- `answer_all` is safe and ends: the turns left fall, and the buffers keep their lengths. Assumes nothing.
 use mathlib.Core.Path.{_≡_, refl, _∙_}
 use lib.ListN.{length}
-use Rattle.script.specs.Input.{Held}
-use Rattle.script.proofs.InputLaws.{start-held}
+use Rattle.lines.specs.Input.{Held}
+use Rattle.lines.proofs.InputLaws.{start-held}
 use borrow.Author.Needs.{needs}
 use Rattle.runner.proofs.answer_all.Statement.{statement}
 use Rattle.runner.proofs.answer_all.Tie as tie

@@ -1,0 +1,61 @@
+-- `word_at` gives the part that `find_word` places. Assumes nothing.
+use native.Mathlib.Omega.{arith}
+use lib.ListN.{length}
+use denote.Ref.{now}
+use Rattle.lines.specs.Words.{Inside}
+use Rattle.lines.specs.declared.words.Word.the-variants as the-word
+use borrow.Author.Needs.{needs}
+use Rattle.lines.proofs.words.word_at.Statement.{statement}
+use Rattle.lines.proofs.words.word_at.Tie as tie
+
+bounds : (c : tie.After-known-told) → Inside (length (now (c .before .before .before .before .before .args .line))) (the-word.At (c .before .start .given .0 .0) (c .before .start .given .0 .1 .0))
+bounds c = rw (c .before .start .given .1) at (c .before .before .before .find-word .ensures .inside)
+
+find-word-requires : tie.Need-find-word-requires
+find-word-requires c κs = search needs
+
+enum-known-start : tie.Need-enum-known-start
+enum-known-start c = search needs
+
+sub-result : tie.Need-sub-result
+sub-result c = bounds c .0
+
+part-result-start : tie.Need-part-result-start
+part-result-start c = omega (arith, bounds c)
+
+part-result-end : tie.Need-part-result-end
+part-result-end c = omega (arith, bounds c)
+
+enum-told : tie.Need-enum-told
+enum-told c = search needs
+
+sub-result-2 : tie.Need-sub-result-2
+sub-result-2 c = search needs
+
+part-result-start-2 : tie.Need-part-result-start-2
+part-result-start-2 c = search needs
+
+part-result-end-2 : tie.Need-part-result-end-2
+part-result-end-2 c = search needs
+
+returns : tie.Need-returns
+returns c = rw (← (c .before .before .before .before .find-word .ensures .is), c .before .before .start .given .1)
+
+returns-2 : tie.Need-returns-2
+returns-2 c = rw (← (c .before .before .before .find-word .ensures .is), c .before .enum-told .given .1)
+
+pub word-at-spec : {M : Type 1} → statement M
+word-at-spec =
+    tie.close
+    (tie.spec
+    find-word-requires
+    enum-known-start
+    sub-result
+    part-result-start
+    part-result-end
+    enum-told
+    sub-result-2
+    part-result-start-2
+    part-result-end-2
+    returns
+    returns-2)
