@@ -1,9 +1,8 @@
 // The varints for compare/, which holds them against the Rust: numbers and byte slices, with C's calling convention.
 ghost use mathlib.Core.Path.{_≡_};
-ghost use Prim.Native.Nat.{_≤_, _^_};
-ghost use lib.ListN.{length};
+ghost use Prim.Native.Nat.{_^_};
 ghost use Rattle.wire.specs.Answer.{coded};
-ghost use Rattle.varint.specs.Varint.{sizeOf, writeOf, afterWrite, readOf};
+ghost use Rattle.varint.specs.Varint.{sizeOf, readOf};
 ghost use Rattle.compare_c.specs.Sums.{codedValue, codedWidth, sumOf, PutCoded};
 use varint::Got;
 use varint::Width;

@@ -1,5 +1,5 @@
-// Runs bench scripts: takes lines from a descriptor and answers each on standard output. The work on text is in the crate
-// `script`, that of each call in its own crate; here are the calls of the system, and a function for each command.
+// Runs bench scripts: takes lines from a descriptor and answers each on standard output. The work on text is in the crates `script`
+// and `lines`, that of each call in its own crate; here are the calls of the system, and a function for each command.
 mod commands;
 mod files;
 mod notes;
@@ -65,8 +65,20 @@ fn fill(fd: i32, chunk: &mut [u8], s: Input) -> Input
     if s.start < s.end {
         return s;
     }
+    input::fill(s, read_some(fd, chunk))
+}
+
+// How many bytes one read put at the chunk's front. What cannot be read, as a folder, ends like an empty script, and standard error
+// says why.
+fn read_some(fd: i32, chunk: &mut [u8]) -> usize
+    ensures { λ r. ⌜ r ≤ length (now (chunk .entry)) ⌝ }
+{
     let got = libc::read(fd, chunk);
-    input::fill(s, io::count(got, chunk))
+    if got < 0 {
+        os::fail(b"crustdelta: the script");
+        return 0;
+    }
+    io::count(got, chunk)
 }
 
 // Takes what the chunk has of the line, and answers the line where it is whole.

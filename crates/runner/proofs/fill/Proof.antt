@@ -9,11 +9,8 @@ use Rattle.runner.proofs.fill.Tie as tie
 returns : tie.Need-returns
 returns c = search needs
 
-read-requires : tie.Need-read-requires
-read-requires c κs = search needs
-
-count-requires : tie.Need-count-requires
-count-requires c κs = search needs
+read-some-requires : tie.Need-read-some-requires
+read-some-requires c κs = search needs
 
 fill-requires : tie.Need-fill-requires
 fill-requires c κs = search needs
@@ -23,10 +20,9 @@ same-length c = search needs
 
 returns-2 : tie.Need-returns-2
 returns-2 c =
-    let args = c .before .before .before .before .before .before .before .before .before .before .args in
-    let count = c .before .count in
-    filled-held (length (now (args .chunk))) (count .result) (args .s) (c .fill .result) (c .fill .ensures) (search needs)
+    let args = c .before .before .before .before .before .before .before .before .args in
+    let read-some = c .before .before .before .read-some in
+    filled-held (length (now (args .chunk))) (read-some .result) (args .s) (c .fill .result) (c .fill .ensures) (read-some .ensures)
 
 pub fill-spec : {M : Type 1} → statement M
-fill-spec =
-    tie.close (tie.spec returns read-requires count-requires fill-requires same-length returns-2)
+fill-spec = tie.close (tie.spec returns read-some-requires fill-requires same-length returns-2)
