@@ -1,11 +1,11 @@
 -- The loop of `compare_varint_sum`: what is still to be read gives the rest of the sum. Assumes nothing.
 use Prim.Native.Nat.{ℕ, zero, suc, _+_, _-_, _%_, _^_, _≤_, _<_}
-use mathlib.Core.Path.{_≡_, refl, sym, ap, _∙_}
-use mathlib.Core.List.{List, []}
+use mathlib.Core.Path.{_≡_, refl, sym, _∙_}
+use mathlib.Core.List.{List}
 use native.Mathlib.Omega.{arith}
 use lib.ListN.{length, drop, drop-of-length-le}
 use lib.Seq.{drop-drop}
-use Rattle.wire.specs.Answer.{Answer, result, refused}
+use Rattle.wire.specs.Answer.{result, refused}
 use Rattle.varint.specs.Varint.{classAt, readOf}
 use Rattle.varint.specs.declared.Varint.{Varint}
 use Rattle.compare_c.specs.Sums.{sumFrom, sumOf}

@@ -5,13 +5,13 @@ use mathlib.Core.Bool.{true, cond}
 use mathlib.Core.Logic.{⊎-elim}
 use mathlib.Core.List.{List}
 use native.Mathlib.Omega.{arith}
-use lib.ListN.{length, take, drop, length-drop}
+use lib.ListN.{length, take, drop}
 use lib.Seq.{length-take-le}
 use lib.Dec.{ltb, eqb}
 use borrow.Author.Tests.{lt-ltb, le-ltb, eq-eqb, ne-eqb}
 use Rattle.wire.proofs.ListLaws.{lt-or-le, length-part}
 use Rattle.script.specs.Scan.{distance, findOf, Found}
-use Rattle.lines.specs.Input.{lineFeed, startOf, filledOf, nextLineOf, pending, partOf, appendedOf, passedOf, Held, Appended, Taken}
+use Rattle.lines.specs.Input.{lineFeed, startOf, filledOf, nextLineOf, pending, partOf, passedOf, Held, Appended, Taken}
 use Rattle.lines.specs.declared.input.Input.{Input}
 
 -- what has been passed lies in the chunk

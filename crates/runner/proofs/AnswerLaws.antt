@@ -1,11 +1,10 @@
 -- What a command says, from what its writer wrote. Assumes nothing.
 use Prim.Native.Nat.{ℕ}
-use mathlib.Core.Path.{_≡_, ap}
+use mathlib.Core.Path.{ap}
 use mathlib.Core.List.{List}
 use Rattle.wire.specs.Answer.{result, refused}
 use Rattle.script.specs.Answers.{WrittenAll}
 use Rattle.runner.specs.Answers.{Says}
-use Rattle.runner.specs.declared.commands.Said.{Said}
 use Rattle.runner.specs.declared.commands.Said.the-variants as said
 
 module _ (parts : List (List ℕ)) (n : ℕ) (old new : List ℕ) (w : WrittenAll parts n old new) where

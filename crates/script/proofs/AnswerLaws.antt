@@ -1,13 +1,12 @@
 -- Parts of an answer, written one after the other. Assumes nothing.
 use Prim.Native.Nat.{ℕ, _+_, _-_, _≤_}
-use mathlib.Core.Path.{_≡_, refl, sym, ap, ap₂, _∙_, subst}
+use mathlib.Core.Path.{_≡_, refl, sym, ap, _∙_}
 use mathlib.Core.List.{List, [], _∷_, _++_, append-assoc, append-nil}
 use native.Mathlib.Omega.{arith}
-use lib.ListN.{length, take, drop, length-append, length-drop}
+use lib.ListN.{length, drop, length-append, length-drop}
 use lib.Seq.{length-take-le}
 use borrow.Author.Tests.{le-leb}
 use borrow.Rule.Slice.PartMut.{midOf, putMid}
-use Rattle.wire.specs.Front.{front, Put}
 use Rattle.wire.proofs.FrontLaws.{length-front, lent-front}
 use Rattle.script.specs.Shown.{fitted, Written}
 use Rattle.script.specs.Answers.{fittedAll, WrittenAll}

@@ -1,6 +1,6 @@
 -- What `size`, `write` and `read` promise, by what their code has tested. Assumes nothing.
-use Prim.Native.Nat.{ℕ, zero, suc, _+_, _*_, _/_, _%_, _^_, _≤_, _<_}
-use mathlib.Core.Path.{_≡_, refl, sym, _∙_}
+use Prim.Native.Nat.{ℕ, _/_, _%_, _^_, _≤_, _<_}
+use mathlib.Core.Path.{_≡_, refl}
 use mathlib.Core.List.{List, [], _∷_}
 use native.Mathlib.Nat.{mod-lt, lt-of-lt-of-le}
 use native.Mathlib.Omega.{arith}
@@ -13,7 +13,7 @@ use Rattle.wire.proofs.ListLaws.{at-four}
 use Rattle.varint.specs.Varint.{width, ceiling, class, form, shortest, classAt, sizeOf, writeOf, afterWrite, readOf, Sized, Written, Found}
 use Rattle.varint.specs.declared.Width.the-variants as width-answer
 use Rattle.varint.specs.declared.Got.the-variants as got
-use Rattle.varint.proofs.TableLaws.{class-small, small-class, large-class, width-positive, width-most, width-rises, ceiling-most}
+use Rattle.varint.proofs.TableLaws.{small-class, large-class, width-positive, width-most, width-rises, ceiling-most}
 
 -- ---- size
 

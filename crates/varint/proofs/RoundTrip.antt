@@ -1,19 +1,18 @@
 -- What is written is read: in every width that holds a value, and as `write` writes it. `size` is the least such width. Assumes nothing.
-use Prim.Native.Nat.{ℕ, zero, suc, _+_, _*_, _/_, _%_, _^_, _≤_, _<_}
-use mathlib.Core.Path.{_≡_, refl, ap, sym, _∙_}
-use mathlib.Core.List.{List, [], _∷_, _++_}
+use Prim.Native.Nat.{ℕ, _+_, _*_, _/_, _%_, _^_, _≤_, _<_}
+use mathlib.Core.Path.{_≡_}
+use mathlib.Core.List.{List, _++_}
 use native.Mathlib.Omega.{arith}
 use mathlib.Core.Logic.{⊎-elim}
-use lib.ListN.{length, getD, take, drop, length-append, List·getD-append}
+use lib.ListN.{length, getD, drop, length-append, List·getD-append}
 use lib.Seq.{take-at}
 use borrow.Author.Tests.{lt-ltb, le-ltb, le-leb, lt-leb}
-use Rattle.wire.specs.Answer.{Answer, result, refused}
+use Rattle.wire.specs.Answer.{result, refused}
 use Rattle.wire.specs.Numbers.{digits, number}
 use Rattle.wire.specs.Front.{front}
 use Rattle.wire.proofs.NumberLaws.{above, length-digits, number-digits}
 use Rattle.wire.proofs.ListLaws.{lt-or-le, at-four}
 use Rattle.varint.specs.Varint.{width, ceiling, class, form, shortest, classAt, sizeOf, writeOf, afterWrite, readOf}
-use Rattle.varint.specs.declared.Varint.{Varint}
 use Rattle.varint.proofs.TableLaws.{class-holds, class-least, class-small, width-rises, width-positive}
 
 pub length-form : (c v : ℕ) → length (form c v) ≡ width c

@@ -1,6 +1,6 @@
 -- The table of widths and ceilings: the class of a value is the first that holds it. Assumes nothing.
 use Prim.Native.Nat.{ℕ, zero, suc, zero-le, suc-le-suc, _^_, _≤_, _<_}
-use mathlib.Core.Path.{_≡_, refl, ap}
+use mathlib.Core.Path.{_≡_, refl}
 use mathlib.Core.List.{List, [], _∷_}
 use mathlib.Core.Logic.{⊎-elim}
 use native.Mathlib.Nat.{le-of-suc-le-suc}

@@ -8,7 +8,7 @@ use native.Mathlib.Omega.{arith}
 use lib.ListN.{length, take, drop, set, getD, replicate, length-append, length-drop, length-replicate, drop-of-length-le, take-append-drop}
 use borrow.Rule.Slice.PartMut.{midOf, postOf, putMid}
 use lib.Seq.{take-all, take-at, drop-at, drop-drop, length-take-le, sets, sets-eq}
-use Rattle.wire.specs.Front.{front, frontAt, Put}
+use Rattle.wire.specs.Front.{front, frontAt}
 
 -- nothing written
 pub front-none : (xs : List ℕ) → xs ≡ front [] xs

@@ -1,5 +1,4 @@
 -- `end` makes a line of what has been taken, as `endedOf` does. Assumes nothing.
-use Rattle.lines.specs.Input.{endedOf}
 use Rattle.lines.proofs.input.end.Statement.{statement}
 use Rattle.lines.proofs.input.end.Tie as tie
 
