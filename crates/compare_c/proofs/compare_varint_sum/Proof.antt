@@ -22,7 +22,11 @@ abbrev μ-loop : tie.MeasureT-loop
 μ-loop input at₀ sum₀ at sum =
     length input - at
 
-seen : (c : tie.After-known-told Inv-loop μ-loop) → Found (drop (c .before .before .before .before .before .before .loop .at) (now (c .before .before .before .before .before .before .before .before .args .input))) (got.Value (c .before .x .given .0 .0))
+seen : (c : tie.After-known-told Inv-loop μ-loop) →
+    let args = c .before .before .before .before .before .before .before .before .args in
+    let loop = c .before .before .before .before .before .before .loop in
+    let x = c .before .x in
+    Found (drop (loop .at) (now (args .input))) (got.Value (x .given .0 .0))
 seen c =
     let args = c .before .before .before .before .before .before .before .before .args in
     let loop = c .before .before .before .before .before .before .loop in
@@ -30,7 +34,11 @@ seen c =
     let read = c .before .before .before .read in
     rw (part-to-end (now (args .input)) (loop .at), x .given .1) at (read .ensures)
 
-bounds : (c : tie.After-known-told Inv-loop μ-loop) → (1 ≤ (c .before .x .given .0 .0 .width)) × ((c .before .before .before .before .before .before .loop .at) + (c .before .x .given .0 .0 .width) ≤ length (now (c .before .before .before .before .before .before .before .before .args .input)))
+bounds : (c : tie.After-known-told Inv-loop μ-loop) →
+    let args = c .before .before .before .before .before .before .before .before .args in
+    let loop = c .before .before .before .before .before .before .loop in
+    let x = c .before .x in
+    (1 ≤ (x .given .0 .0 .width)) × ((loop .at) + (x .given .0 .0 .width) ≤ length (now (args .input)))
 bounds c =
     let loop = c .before .before .before .before .before .before .loop in
     let args = c .before .before .before .before .before .before .before .before .args in

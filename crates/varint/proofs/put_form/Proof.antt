@@ -21,7 +21,9 @@ two-bytes c = (rw (c .if2 .taken) at (c .before .before .before .pre .1), rw (c 
 four-bytes : (c : tie.Then3) → (4 ≤ length (now (c .before .before .before .before .args .out))) × ((c .before .before .before .before .args .value) < 1073741824)
 four-bytes c = (rw (c .if3 .taken) at (c .before .before .before .before .pre .1), rw (c .if3 .taken) at (c .before .before .before .before .pre .2))
 
-eight-bytes : (c : tie.Else3) → ((c .before .before .before .before .args .class) ≡ 3) × (8 ≤ length (now (c .before .before .before .before .args .out))) × ((c .before .before .before .before .args .value) < 4611686018427387904)
+eight-bytes : (c : tie.Else3) →
+    let args = c .before .before .before .before .args in
+    ((args .class) ≡ 3) × (8 ≤ length (now (args .out))) × ((args .value) < 4611686018427387904)
 eight-bytes c =
     let args = c .before .before .before .before .args in
     let pre = c .before .before .before .before .pre in

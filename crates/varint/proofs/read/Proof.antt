@@ -16,7 +16,12 @@ use Rattle.varint.proofs.read.Tie as tie
 first : (c : tie.After-wide) → ((c .wide .result) / 64 < 4) × (getD (now (c .before .before .before .before .args .input)) 0 0 / 64 ≡ (c .wide .result) / 64)
 first c = (omega arith, rw (c .wide .ensures .0))
 
-low-bytes : (c : tie.After-wide4) → (((c .before .before .before .before .before .before .before .before .before .before .wide .result) % 64 * 256 + (c .before .before .before .before .before .before .wide2 .result)) * 256 + (c .before .before .wide3 .result)) * 256 + (c .wide4 .result) ≡ number 256 (take 4 (now (c .before .before .before .before .before .before .before .before .before .before .before .before .before .before .args .input))) % 1073741824
+low-bytes : (c : tie.After-wide4) →
+    let args = c .before .before .before .before .before .before .before .before .before .before .before .before .before .before .args in
+    let wide = c .before .before .before .before .before .before .before .before .before .before .wide in
+    let wide2 = c .before .before .before .before .before .before .wide2 in
+    let wide3 = c .before .before .wide3 in
+    (((wide .result) % 64 * 256 + (wide2 .result)) * 256 + (wide3 .result)) * 256 + (c .wide4 .result) ≡ number 256 (take 4 (now (args .input))) % 1073741824
 low-bytes c =
     let wide = c .before .before .before .before .before .before .before .before .before .before .wide in
     let wide2 = c .before .before .before .before .before .before .wide2 in

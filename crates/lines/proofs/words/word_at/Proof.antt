@@ -8,7 +8,10 @@ use borrow.Author.Needs.{needs}
 use Rattle.lines.proofs.words.word_at.Statement.{statement}
 use Rattle.lines.proofs.words.word_at.Tie as tie
 
-bounds : (c : tie.After-known-told) → Inside (length (now (c .before .before .before .before .before .args .line))) (the-word.At (c .before .start .given .0 .0) (c .before .start .given .0 .1 .0))
+bounds : (c : tie.After-known-told) →
+    let args = c .before .before .before .before .before .args in
+    let start = c .before .start in
+    Inside (length (now (args .line))) (the-word.At (start .given .0 .0) (start .given .0 .1 .0))
 bounds c = rw (c .before .start .given .1) at (c .before .before .before .find-word .ensures .inside)
 
 find-word-requires : tie.Need-find-word-requires

@@ -16,7 +16,10 @@ abbrev μ-loop : tie.MeasureT-loop
 μ-loop text out₀ at₀ n₀ out at n =
     length text - at
 
-within : (c : tie.After-known-told Inv-loop μ-loop) → (c .before .before .before .before .before .before .before .before .before .loop .n) + (c .before .k .given .0 .0) ≤ length (c .before .before .before .before .before .before .before .before .before .loop .out)
+within : (c : tie.After-known-told Inv-loop μ-loop) →
+    let loop = c .before .before .before .before .before .before .before .before .before .loop in
+    let k = c .before .k in
+    (loop .n) + (k .given .0 .0) ≤ length (loop .out)
 within c =
     let k = c .before .k in
     let loop = c .before .before .before .before .before .before .before .before .before .loop in
