@@ -7,14 +7,14 @@ use mathlib.Core.List.{List, [], _∷_, _++_, reverse}
 use native.Mathlib.Nat.{not-suc-le-zero, le-of-suc-le-suc}
 use native.Mathlib.Omega.{arith}
 use lib.ListN.{length, take, drop, getD, replicate, length-append, length-take, length-drop, length-replicate, length-reverse, getD-replicate, take-append-drop, List·getD-append}
-use lib.Seq.{take-at, drop-append-add, getD-take, getD-drop, ext-getD}
+use lib.Seq.{take-at, drop-append-add, getD-append-seam, getD-take, getD-drop, ext-getD}
 use lib.Dec.{ltb, eqb}
-use borrow.Author.Tests.{lt-ltb, le-ltb, ne-eqb, eqb-true}
+use borrow.Author.Tests.{lt-ltb, le-ltb, eq-eqb, ne-eqb, eqb-true}
 use Rattle.wire.proofs.ListLaws.{lt-or-le}
-use Rattle.script.specs.Scan.{all, isOnly, distance, quote, star, plus, dash, at, underscore}
+use Rattle.script.specs.Scan.{all, isOnly, begins, distance, quote, star, plus, dash, at, underscore}
 use Rattle.script.specs.Decimal.{isDecimal, numberOf, decimalText}
 use Rattle.script.specs.Hex.{hexDigit, isHex, hexPair, hexText}
-use Rattle.script.specs.Piece.{pieceLength, Meaning, bytes, file, malformed, timesOf, runOf, pieceOf}
+use Rattle.script.specs.Piece.{pieceLength, Meaning, bytes, file, malformed, isPlain, inner, textOf, timesOf, runOf, pieceOf}
 use Rattle.script.specs.Shown.{equalFront, lastByte, trailingRun, runText, joinedText, shownText}
 use Rattle.script.proofs.ScanLaws.{all-at, only-not}
 use Rattle.script.proofs.DecimalLaws.{length-decimalText}
@@ -30,12 +30,14 @@ after (bytes a) malformed = malformed
 after file m = malformed
 after malformed m = malformed
 
--- the bytes of up to n pieces joined by `+`, none of them a file
+-- the bytes of up to n pieces joined by `+`, none of them a file; what follows a text is a `+` or nothing
 unfoldable pub operandOf : ℕ → List ℕ → List ℕ → Meaning
 operandOf zero t last = malformed
 operandOf (suc n) t last =
     cond (ltb (pieceLength t) (length t))
+    (cond (eqb (getD t (pieceLength t) 0) plus)
     (after (pieceOf (take (pieceLength t) t) last) (operandOf n (drop (pieceLength t + 1) t) last))
+    malformed)
     (pieceOf t last)
 
 -- ---- one piece, and two
@@ -48,7 +50,8 @@ operand-two : (n : ℕ) (a b last : List ℕ) → pieceLength (a ++ (plus ∷ b)
     → operandOf (suc n) (a ++ (plus ∷ b)) last ≡ after (pieceOf a last) (operandOf n b last)
 unfolding operandOf
 operand-two n a b last e =
-    rw (e, length-append, lt-ltb (length a) (length a + suc (length b)) (omega arith), take-at a (plus ∷ b) (length a) refl, drop-append-add a (plus ∷ b) 1)
+    let joined : eqb (getD (a ++ (plus ∷ b)) (length a) 0) plus ≡ true = eq-eqb _ plus (getD-append-seam a plus b 0) in
+    rw (e, length-append, lt-ltb (length a) (length a + suc (length b)) (omega arith), joined, take-at a (plus ∷ b) (length a) refl, drop-append-add a (plus ∷ b) 1)
 
 -- a piece that is no text ends before the first plus
 plain-length : (t : List ℕ) → 0 < length t → (getD t 0 0 ≡ quote → ⊥) → pieceLength t ≡ distance plus t
@@ -245,3 +248,8 @@ module _ (s last : List ℕ) (f : Bytes s) (few : length s < 2 ^ 64) where
       (lt-or-le (trailingRun s) 8))
       (λ z. none-case (omega arith))
       (lt-or-le 0 (length s))
+
+-- `"a"b` is no operand, `"a"+"b"` is
+pub text-then-plus : (operandOf 2 (34 ∷ 97 ∷ 34 ∷ 98 ∷ []) [] ≡ malformed) × (operandOf 2 (34 ∷ 97 ∷ 34 ∷ 43 ∷ 34 ∷ 98 ∷ 34 ∷ []) [] ≡ bytes (97 ∷ 98 ∷ []))
+unfolding operandOf pieceLength pieceOf isOnly begins distance textOf inner isPlain all
+text-then-plus = (refl, refl)
