@@ -5,15 +5,14 @@ use mathlib.Core.List.{List, [], _∷_}
 use native.Mathlib.Nat.{mod-lt, lt-of-lt-of-le}
 use native.Mathlib.Omega.{arith}
 use lib.ListN.{length, getD, take}
-use lib.Dec.{lit<, lit≤}
+use lib.Dec.{lit≤}
 use borrow.Author.Tests.{lt-ltb, le-ltb, le-leb, lt-leb}
 use Rattle.wire.specs.Numbers.{number}
 use Rattle.wire.specs.Front.{front}
-use Rattle.wire.proofs.ListLaws.{at-four}
 use Rattle.varint.specs.Varint.{width, ceiling, class, form, shortest, classAt, sizeOf, writeOf, afterWrite, readOf, Sized, Written, Found}
 use Rattle.varint.specs.declared.Width.the-variants as width-answer
 use Rattle.varint.specs.declared.Got.the-variants as got
-use Rattle.varint.proofs.TableLaws.{small-class, large-class, width-positive, width-most, width-rises, ceiling-most}
+use Rattle.varint.proofs.TableLaws.{small-class, large-class, width-positive, width-most, width-rises, ceiling-positive, ceiling-most}
 
 -- ---- size
 
@@ -66,9 +65,6 @@ pub found-none : (s : List ℕ) → length s < 1 → Found s (got.Refused 3)
 unfolding readOf classAt
 found-none [] h = record { is = refl; bounds = (lit≤ tt, lit≤ tt) }
 found-none (b ∷ s) h = absurd (omega arith)
-
-ceiling-positive : (c : ℕ) → c < 4 → 0 < ceiling c
-ceiling-positive = at-four (λ c. 0 < ceiling c) (lit< tt) (lit< tt) (lit< tt) (lit< tt)
 
 module _ (s : List ℕ) (c : ℕ) (e : getD s 0 0 / 64 ≡ c) (h : c < 4) where
   -- a class no narrower than k, and fewer bytes than k asks for

@@ -1,27 +1,27 @@
--- What is written is read: in every width that holds a value, and as `write` writes it. `size` is the least such width. Assumes nothing.
-use Prim.Native.Nat.{ℕ, _+_, _*_, _/_, _%_, _^_, _≤_, _<_}
-use mathlib.Core.Path.{_≡_}
-use mathlib.Core.List.{List, _++_}
+-- What is written is read, in every width that holds a value; what is read is the form of its class; `size` is the least width. Assumes nothing.
+use Prim.Native.Nat.{ℕ, suc, _+_, _-_, _*_, _/_, _%_, _^_, _≤_, _<_}
+use mathlib.Core.Path.{_≡_, refl}
+use mathlib.Core.List.{List, [], _∷_, _++_}
+use native.Mathlib.Nat.{div-add-mod', mod-lt}
 use native.Mathlib.Omega.{arith}
 use mathlib.Core.Logic.{⊎-elim}
-use lib.ListN.{length, getD, drop, length-append, List·getD-append}
-use lib.Seq.{take-at}
-use borrow.Author.Tests.{lt-ltb, le-ltb, le-leb, lt-leb}
-use Rattle.wire.specs.Answer.{result, refused}
-use Rattle.wire.specs.Numbers.{digits, number}
+use lib.ListN.{length, getD, take, drop, length-append, List·getD-append}
+use lib.Dec.{leb}
+use lib.Seq.{take-at, getD-take, length-take-le}
+use borrow.Author.Tests.{lt-ltb, le-ltb, le-leb, lt-leb, leb-true}
+use Rattle.wire.specs.Answer.{result}
+use Rattle.wire.specs.Numbers.{Bytes, digits, numberOn, number}
 use Rattle.wire.specs.Front.{front}
-use Rattle.wire.proofs.NumberLaws.{above, length-digits, number-digits}
+use Rattle.wire.proofs.NumberLaws.{above, length-digits, number-digits, above-numberOn, digits-number, bytes-take}
+use Rattle.wire.proofs.AnswerLaws.{apart, ask-yes, same-result}
 use Rattle.wire.proofs.ListLaws.{lt-or-le, at-four}
 use Rattle.varint.specs.Varint.{width, ceiling, class, form, shortest, classAt, sizeOf, writeOf, afterWrite, readOf}
-use Rattle.varint.proofs.TableLaws.{class-holds, class-least, class-small, width-rises, width-positive}
+use Rattle.varint.specs.declared.Varint.{Varint}
+use Rattle.varint.proofs.TableLaws.{class-holds, class-least, class-small, width-rises, width-positive, ceiling-positive}
 
 pub length-form : (c v : ℕ) → length (form c v) ≡ width c
 unfolding form
 length-form c v = length-digits 256 (width c) (c * ceiling c + v)
-
--- a result is no refusal
-apart : {A : Type 0} {a : A} {n : ℕ} → refused n ≡ result a → ⊥
-apart e = let z : _≡_ {A = ℕ} 0 1 = cc in omega arith
 
 -- a class and a value that it holds make a number of as many bytes as the class is wide, with the class at its top
 record Shape (c v : ℕ) : Type 0 where
@@ -55,6 +55,53 @@ module _ (c v : ℕ) (rest : List ℕ) (h : c < 4) (l : v < ceiling c) where
   form-read =
       let whole : width c ≤ length (form c v ++ rest) = rw (length-append, length-form c v) (omega arith) in
       rw (classAt-form, le-leb (width c) (length (form c v ++ rest)) whole, take-at (form c v) rest (width c) (length-form c v), form-value)
+
+-- ---- back: what is read stands in the form of its class
+
+-- what is above the last bytes of a class's number is the first byte, and above its two top bits the class
+top-bits : (n c : ℕ) → c < 4 → n / ceiling c ≡ above 256 (width c - 1) n / 64
+unfolding above
+top-bits n = at-four (λ c. n / ceiling c ≡ above 256 (width c - 1) n / 64) (omega arith) (omega arith) (omega arith) (omega arith)
+
+form-number : (c : ℕ) (ds : List ℕ) → c < 4 → Bytes ds → length ds ≡ width c → classAt ds ≡ c → form c (number 256 ds % ceiling c) ≡ ds
+unfolding form classAt number numberOn
+form-number c [] h b l e = absurd (omega (arith, width-positive c h))
+form-number c (d ∷ ds) h b l e =
+    let z : width c - 1 ≡ length ds = omega arith in
+    let n = number 256 (d ∷ ds) in
+    let top : n / ceiling c ≡ c = rw (top-bits n c h, z, above-numberOn 256 ds (0 * 256 + d) (λ i. b (suc i))) (omega arith) in
+    let whole : c * ceiling c + n % ceiling c ≡ n = rw top at (div-add-mod' n (ceiling c)) in
+    rw (whole, ← l) (digits-number 256 (d ∷ ds) b)
+
+-- the bytes that were read are the value's form in the class that they name
+pub record Formed (s : List ℕ) (x : Varint) : Type 0 where
+  pub known : classAt s < 4
+  pub wide : x .width ≡ width (classAt s)
+  pub below : x .value < ceiling (classAt s)
+  pub within : x .width ≤ length s
+  pub bytes : take (x .width) s ≡ form (classAt s) (x .value)
+
+formed : (s : List ℕ) (c : ℕ) → classAt s ≡ c → Bytes s → width c ≤ length s → Formed s (record { value = number 256 (take (width c) s) % ceiling c; width = width c })
+unfolding classAt
+formed s c e b l =
+    let known : c < 4 = omega (arith, b 0) in
+    let first : getD (take (width c) s) 0 0 / 64 ≡ c = rw (getD-take (width c) s 0 0 (width-positive c known)) e in
+    record {
+      known = rw e known;
+      wide = rw e;
+      below = rw e (mod-lt (number 256 (take (width c) s)) (ceiling-positive c known));
+      within = l;
+      bytes = rw (e, form-number c (take (width c) s) known (bytes-take (width c) s b) (length-take-le (width c) s l) first);
+    }
+
+-- ONE LAW OVER THE CLASS, the inverse of `form-read`
+pub read-formed : (s : List ℕ) (x : Varint) → Bytes s → readOf s ≡ result x → Formed s x
+unfolding readOf
+read-formed s x b e =
+    let c = classAt s in
+    let y : Varint = record { value = number 256 (take (width c) s) % ceiling c; width = width c } in
+    let passed = ask-yes (leb (width c) (length s)) 3 (result y) x e in
+    rw (same-result y x (passed .1)) at (formed s c refl b (leb-true (width c) (length s) (passed .0)))
 
 -- ---- size
 

@@ -45,6 +45,9 @@ width-positive = at-four (λ c. 1 ≤ width c) (lit≤ tt) (lit≤ tt) (lit≤ t
 pub width-most : (c : ℕ) → c < 4 → width c ≤ 8
 width-most = at-four (λ c. width c ≤ 8) (lit≤ tt) (lit≤ tt) (lit≤ tt) (lit≤ tt)
 
+pub ceiling-positive : (c : ℕ) → c < 4 → 0 < ceiling c
+ceiling-positive = at-four (λ c. 0 < ceiling c) (lit< tt) (lit< tt) (lit< tt) (lit< tt)
+
 pub ceiling-most : (c : ℕ) → c < 4 → ceiling c ≤ 2 ^ 62
 ceiling-most = at-four (λ c. ceiling c ≤ 2 ^ 62) (lit≤ tt) (lit≤ tt) (lit≤ tt) (lit≤ tt)
 

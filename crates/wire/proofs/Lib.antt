@@ -2,3 +2,4 @@ pub mod NumberLaws
 pub mod FrontLaws
 pub mod ListLaws
 pub mod SumLaws
+pub mod AnswerLaws

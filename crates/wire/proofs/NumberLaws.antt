@@ -1,11 +1,12 @@
 -- Digits and the numbers that they write. Assumes nothing.
-use Prim.Native.Nat.{ℕ, zero, suc, _+_, _*_, _/_, _≤_}
-use mathlib.Core.Path.{_≡_, refl}
+use Prim.Native.Nat.{ℕ, zero, suc, _+_, _*_, _/_, _%_, _≤_, _<_}
+use mathlib.Core.Path.{_≡_, refl, _∙_}
 use mathlib.Core.List.{List, [], _∷_, _++_, append-assoc, append-nil}
-use native.Mathlib.Nat.{div-add-mod'}
+use native.Mathlib.Nat.{div-add-mod', mul-add-div-right, mul-add-mod-self-right, div-eq-of-lt, mod-eq-of-lt}
 use native.Mathlib.Omega.{arith}
-use lib.ListN.{length, take, getD, length-append}
-use Rattle.wire.specs.Numbers.{digits, numberOn, number}
+use lib.ListN.{length, take, drop, getD, length-append}
+use lib.Seq.{getD-drop}
+use Rattle.wire.specs.Numbers.{Bytes, digits, numberOn, number}
 
 pub length-digits : (b n v : ℕ) → length (digits b n v) ≡ n
 unfolding digits
@@ -44,6 +45,52 @@ unfolding digits above
 digits-split b m zero v k e = let z : k ≡ m = omega arith in rw (z, append-nil)
 digits-split b m (suc n) v zero e = absurd (omega arith)
 digits-split b m (suc n) v (suc k) e = rw (digits-split b m n (v / b) k (omega arith), append-assoc)
+
+-- ---- back: digits make a number that has them
+
+above-suc : (b n v : ℕ) → above b (suc n) v ≡ above b n v / b
+unfolding above
+above-suc b zero v = refl
+above-suc b (suc n) v = above-suc b n (v / b)
+
+module _ (b a d : ℕ) (h : d < b) where
+  high-digit : (a * b + d) / b ≡ a
+  high-digit = rw (mul-add-div-right {m = b} (omega arith) a d, div-eq-of-lt h) (omega arith)
+
+  low-digit : (a * b + d) % b ≡ d
+  low-digit = rw (mul-add-mod-self-right a b d) (mod-eq-of-lt h)
+
+-- each digit is below the base; those of base 256 are `Bytes`
+abbrev pub Digits : ℕ → List ℕ → Type 0
+Digits b ds = (i : ℕ) → getD ds i 0 < b
+
+pub above-numberOn : (b : ℕ) (ds : List ℕ) (a : ℕ) → Digits b ds → above b (length ds) (numberOn b a ds) ≡ a
+unfolding above numberOn
+above-numberOn b [] a h = refl
+above-numberOn b (d ∷ ds) a h =
+    above-suc b (length ds) (numberOn b (a * b + d) ds) ∙ rw (above-numberOn b ds (a * b + d) (λ i. h (suc i))) (high-digit b a d (h 0))
+
+digits-numberOn : (b : ℕ) (ds : List ℕ) (a : ℕ) → Digits b ds → digits b (length ds) (numberOn b a ds) ≡ ds
+unfolding digits numberOn
+digits-numberOn b [] a h = refl
+digits-numberOn b (d ∷ ds) a h =
+    digits-split b 1 (length ds) (numberOn b (a * b + d) ds) (suc (length ds)) (omega arith)
+    ∙ rw (above-numberOn b ds (a * b + d) (λ i. h (suc i)), digits-numberOn b ds (a * b + d) (λ i. h (suc i)), low-digit b a d (h 0))
+
+pub digits-number : (b : ℕ) (ds : List ℕ) → Digits b ds → digits b (length ds) (number b ds) ≡ ds
+unfolding number
+digits-number b ds h = digits-numberOn b ds 0 h
+
+-- ---- bytes
+
+pub bytes-take : (n : ℕ) (s : List ℕ) → Bytes s → Bytes (take n s)
+bytes-take zero s h i = omega arith
+bytes-take (suc n) [] h i = omega arith
+bytes-take (suc n) (x ∷ s) h zero = h 0
+bytes-take (suc n) (x ∷ s) h (suc i) = bytes-take n s (λ j. h (suc j)) i
+
+pub bytes-drop : (n : ℕ) (s : List ℕ) → Bytes s → Bytes (drop n s)
+bytes-drop n s h i = rw getD-drop (h (n + i))
 
 -- two bytes, as `be16` reads them
 pub number-two : (s : List ℕ) → 2 ≤ length s → number 256 (take 2 s) ≡ getD s 0 0 * 256 + getD s 1 0

@@ -11,6 +11,16 @@ abbrev pub ask : {A : Type 0} → Bool → ℕ → Answer A → Answer A
 ask true n next = next
 ask false n next = refused n
 
+-- a question that has a result of its own, with which what follows goes on
+abbrev pub askFor : {A B : Type 0} → Answer A → ℕ → (A → Answer B) → Answer B
+askFor (result a) n next = next a
+askFor (refused k) n next = refused n
+
+-- what follows a result; a refusal stands
+abbrev pub andThen : {A B : Type 0} → Answer A → (A → Answer B) → Answer B
+andThen (result a) next = next a
+andThen (refused k) next = refused k
+
 -- what a buffer holds after a call: by the result, or left as it was
 abbrev pub unlessRefused : {A B : Type 0} → Answer A → (A → B) → B → B
 unlessRefused (result a) f old = f a

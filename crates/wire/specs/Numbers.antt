@@ -1,6 +1,11 @@
 -- Numbers written digit by digit, the highest digit first. Bytes are the digits of base 256.
-use Prim.Native.Nat.{ℕ, zero, suc, _+_, _*_, _/_, _%_}
+use Prim.Native.Nat.{ℕ, zero, suc, _+_, _*_, _/_, _%_, _<_}
 use mathlib.Core.List.{List, [], _∷_, _++_}
+use lib.ListN.{getD}
+
+-- a list of bytes
+abbrev pub Bytes : List ℕ → Type 0
+Bytes bs = (i : ℕ) → getD bs i 0 < 256
 
 -- the n low digits of v in base b
 unfoldable pub digits : ℕ → ℕ → ℕ → List ℕ
