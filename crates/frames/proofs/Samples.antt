@@ -1,0 +1,50 @@
+-- Closed inputs that tell the joiner from wrong ones, each with its answer. Assumes nothing.
+use Prim.Native.Nat.{ℕ}
+use mathlib.Core.Path.{_≡_, refl}
+use mathlib.Core.List.{List, [], _∷_, map}
+use Rattle.wire.specs.Answer.{Answer, result, refused}
+use Rattle.wire.specs.Numbers.{numberOn, number}
+use Rattle.varint.specs.Varint.{classAt, readOf}
+use Rattle.frames.specs.Read.{readCrypto, readFrame}
+use Rattle.frames.specs.Stream.{has, byteAt, filled, held, endOf, each, values, agrees, gapless, stream}
+use Rattle.frames.specs.Join.{place, placeAll, close, join}
+
+abbrev pub questions : List (List ℕ)
+questions =
+    -- empty frames: one at 0; one past the bytes, and alone, which leaves places empty
+    (0x06 ∷ 0x00 ∷ 0x00 ∷ [])
+    ∷ (0x06 ∷ 0x00 ∷ 0x01 ∷ 0xaa ∷ 0x06 ∷ 0x05 ∷ 0x00 ∷ [])
+    ∷ (0x06 ∷ 0x05 ∷ 0x00 ∷ [])
+    -- a zero byte is placed like any other
+    ∷ (0x06 ∷ 0x00 ∷ 0x01 ∷ 0x00 ∷ 0x06 ∷ 0x00 ∷ 0x01 ∷ 0x01 ∷ [])
+    -- a type has one byte: CRYPTO in a longer form is unknown
+    ∷ (0x40 ∷ 0x06 ∷ 0x00 ∷ 0x01 ∷ 0xaa ∷ [])
+    -- 12 before 13: a byte is missing, and the frame would end past 16,384
+    ∷ (0x06 ∷ 0x80 ∷ 0x00 ∷ 0x40 ∷ 0x00 ∷ 0x02 ∷ 0xaa ∷ [])
+    -- 13 for the largest offset, with no data too
+    ∷ (0x06 ∷ 0xff ∷ 0xff ∷ 0xff ∷ 0xff ∷ 0xff ∷ 0xff ∷ 0xff ∷ 0xff ∷ 0x00 ∷ [])
+    -- 13 before 14: the second frame ends past 16,384, and its first byte conflicts
+    ∷ (0x06 ∷ 0x7f ∷ 0xff ∷ 0x01 ∷ 0x61 ∷ 0x06 ∷ 0x7f ∷ 0xff ∷ 0x02 ∷ 0x62 ∷ 0x62 ∷ [])
+    -- 15 after all frames
+    ∷ (0x06 ∷ 0x01 ∷ 0x01 ∷ 0xbb ∷ 0x04 ∷ [])
+    -- longer varints, with PING and PADDING between
+    ∷ (0x01 ∷ 0x06 ∷ 0xc0 ∷ 0x00 ∷ 0x00 ∷ 0x00 ∷ 0x00 ∷ 0x00 ∷ 0x00 ∷ 0x00 ∷ 0x40 ∷ 0x01 ∷ 0xaa ∷ 0x00 ∷ [])
+    ∷ []
+
+abbrev pub answers : List (Answer (List ℕ))
+answers =
+    result []
+    ∷ refused 15
+    ∷ refused 15
+    ∷ refused 14
+    ∷ refused 11
+    ∷ refused 12
+    ∷ refused 13
+    ∷ refused 13
+    ∷ refused 11
+    ∷ result (0xaa ∷ [])
+    ∷ []
+
+pub samples : map join questions ≡ answers
+unfolding numberOn number classAt readOf readCrypto readFrame has byteAt filled held endOf each values agrees gapless stream place placeAll close join
+samples = refl

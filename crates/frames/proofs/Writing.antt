@@ -1,0 +1,68 @@
+-- A whole that is written piece by piece over the front of a buffer, each piece to the part after the last. Assumes nothing.
+use Prim.Native.Nat.{ℕ, zero-le, _+_, _-_, _≤_}
+use mathlib.Core.Path.{_≡_, refl, ap, _∙_}
+use mathlib.Core.List.{List, [], _∷_, _++_}
+use native.Mathlib.Omega.{arith}
+use lib.ListN.{length, take, drop, set, length-drop}
+use lib.Seq.{take-all, length-take-le}
+use borrow.Rule.Slice.PartMut.{midOf, putMid}
+use Rattle.wire.specs.Front.{front, Put}
+use Rattle.wire.proofs.ListLaws.{length-part-to-end}
+use Rattle.wire.proofs.FrontLaws.{front-none, length-front, stores, piece-drop, piece-length, piece-written}
+
+-- the part `&mut out[n..]` as it is lent, and the buffer when it is back
+abbrev pub lentFrom : ℕ → List ℕ → List ℕ
+lentFrom n out = midOf n (length out - n) out
+
+abbrev pub backFrom : ℕ → List ℕ → List ℕ → List ℕ
+backFrom n out part = putMid n (length out - n) out part
+
+-- n elements of the whole stand, and the rest is still to be written
+pub record Writing (whole rest old out : List ℕ) (n : ℕ) : Type 0 where
+  pub fits : length whole ≤ length old
+  pub within : n ≤ length whole
+  pub left : drop n whole ≡ rest
+  pub is : out ≡ front (take n whole) old
+
+pub begins : (whole old : List ℕ) → length whole ≤ length old → Writing whole whole old old 0
+begins whole old h = record { fits = h; within = zero-le; left = refl; is = front-none old }
+
+-- the first element, by a store
+pub stored : (x : ℕ) (rest old : List ℕ) → length (x ∷ rest) ≤ length old → Writing (x ∷ rest) rest old (set old 0 x) 1
+stored x rest old h = record { fits = h; within = omega arith; left = refl; is = stores (x ∷ []) old (omega arith) }
+
+module _ {whole rest old out : List ℕ} {n : ℕ} (w : Writing whole rest old out n) where
+  -- the rest, written in another way
+  pub restated : {other : List ℕ} → drop n whole ≡ other → Writing whole other old out n
+  restated e = record { fits = w .fits; within = w .within; left = e; is = w .is }
+
+  pub same-length : length out ≡ length old
+  same-length =
+      let count : length (take n whole) ≡ n = length-take-le n whole (w .within) in
+      ap length (w .is) ∙ length-front (take n whole) old (omega (arith, w .fits, w .within))
+
+  pub place-within : n ≤ length out
+  place-within = omega (arith, same-length, w .fits, w .within)
+
+module _ {whole old out : List ℕ} {n : ℕ} (a r : List ℕ) (w : Writing whole (a ++ r) old out n) where
+  pub next-room : {m : ℕ} → length a ≡ m → m ≤ length (lentFrom n out)
+  next-room e =
+      let all : n + length a + length r ≡ length whole = piece-length whole a r n (w .within) (w .left) in
+      rw (length-part-to-end out n) (omega (arith, w .fits, same-length w))
+
+  -- the next piece was written to the part that starts where n elements stand
+  pub writes : {part : List ℕ} {m : ℕ} → Put a m (lentFrom n out) part → Writing whole r old (backFrom n out part) (n + m)
+  writes {part} p =
+      let all : n + length a + length r ≡ length whole = piece-length whole a r n (w .within) (w .left) in
+      rw (p .count)
+      record {
+        fits = w .fits;
+        within = omega arith;
+        left = piece-drop whole a r n (w .within) (w .left);
+        is = piece-written whole a r n (w .within) (w .left) old out part (length out - n) (w .is) refl (p .output);
+      }
+
+pub finished : {whole old out : List ℕ} {n : ℕ} → Writing whole [] old out n → Put whole n old out
+finished {whole} {old} {n = n} w =
+    let count : n ≡ length whole = omega (arith, w .within, length-drop n whole, ap length (w .left)) in
+    record { count = count; output = w .is ∙ ap (λ (l : List ℕ). front l old) (take-all n whole (omega arith)) }

@@ -1,0 +1,37 @@
+-- `frame_length` gives the length of a frame: type, two widths, data. Assumes nothing.
+use denote.Ref.{now}
+use Rattle.frames.proofs.CutLaws.{frame-size}
+use borrow.Author.Needs.{needs}
+use Rattle.frames.proofs.cutting.frame_length.Statement.{statement}
+use Rattle.frames.proofs.cutting.frame_length.Tie as tie
+
+varint-length-requires : tie.Need-varint-length-requires
+varint-length-requires c κs = search needs
+
+add-result : tie.Need-add-result
+add-result c = search needs
+
+varint-length-requires-2 : tie.Need-varint-length-requires-2
+varint-length-requires-2 c κs = search needs
+
+add-result-2 : tie.Need-add-result-2
+add-result-2 c = search needs
+
+add-result-3 : tie.Need-add-result-3
+add-result-3 c = search needs
+
+returns : tie.Need-returns
+returns c =
+    let args = c .before .before .before .args in
+    frame-size (args .offset) (now (args .bytes)) _ _ (c .before .varint-length .ensures .0) (c .varint-length2 .ensures .0)
+
+pub frame-length-spec : {M : Type 1} → statement M
+frame-length-spec =
+    tie.close
+    (tie.spec
+    varint-length-requires
+    add-result
+    varint-length-requires-2
+    add-result-2
+    add-result-3
+    returns)

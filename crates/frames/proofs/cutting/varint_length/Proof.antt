@@ -1,0 +1,32 @@
+-- `varint_length` gives the shortest width: `size` refuses no number up to the limit. Assumes nothing.
+use Rattle.frames.proofs.CutLaws.{sized, never-unsized}
+use borrow.Author.Needs.{needs}
+use Rattle.frames.proofs.cutting.varint_length.Statement.{statement}
+use Rattle.frames.proofs.cutting.varint_length.Tie as tie
+
+size-requires : tie.Need-size-requires
+size-requires c κs = search needs
+
+enum-known-n : tie.Need-enum-known-n
+enum-known-n c = search needs
+
+enum-told : tie.Need-enum-told
+enum-told c = search needs
+
+returns : tie.Need-returns
+returns c =
+    let args = c .before .before .before .before .args in
+    let pre = c .before .before .before .before .pre in
+    let n = c .before .n in
+    let size = c .before .before .before .size in
+    sized (args .value) pre (n .given .0 .0) (rw (n .given .1) at (size .ensures))
+
+returns-2 : tie.Need-returns-2
+returns-2 c =
+    let args = c .before .before .before .args in
+    let pre = c .before .before .before .pre in
+    let size = c .before .before .size in
+    absurd (never-unsized (args .value) pre _ (rw (c .enum-told .given .1) at (size .ensures)))
+
+pub varint-length-spec : {M : Type 1} → statement M
+varint-length-spec = tie.close (tie.spec size-requires enum-known-n enum-told returns returns-2)

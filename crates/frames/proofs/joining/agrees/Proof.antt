@@ -1,0 +1,66 @@
+-- `agrees` asks at each place of the piece: after i turns it has asked at the first i. Assumes nothing.
+use Prim.Native.Nat.{_≤_, _-_}
+use mathlib.Core.Path.{_≡_, refl}
+use native.Mathlib.Omega.{arith}
+use denote.Ref.{now}
+use lib.ListN.{length}
+use Rattle.frames.specs.Stream.{each}
+use Rattle.frames.specs.Buffers.{agreesAt, agreeing}
+use Rattle.frames.proofs.EachLaws.{each-more}
+use Rattle.frames.proofs.joining.agrees.Statement.{statement}
+use Rattle.frames.proofs.joining.agrees.Tie as tie
+
+abbrev Inv-loop : tie.InvT-loop
+Inv-loop piece out marks good₀ i₀ good i =
+    (i ≤ length piece) × (good ≡ each (agreesAt piece out marks) 0 i)
+
+abbrev μ-loop : tie.MeasureT-loop
+μ-loop piece out marks good₀ i₀ good i =
+    length piece - i
+
+loop-holds : tie.Need-loop-holds Inv-loop μ-loop
+unfolding each
+loop-holds c = (omega arith, refl)
+
+shared-slice-read-good : tie.Need-shared-slice-read-good Inv-loop μ-loop
+shared-slice-read-good c = omega arith
+
+shared-slice-read-good-2 : tie.Need-shared-slice-read-good-2 Inv-loop μ-loop
+shared-slice-read-good-2 c = omega arith
+
+shared-slice-read-good-3 : tie.Need-shared-slice-read-good-3 Inv-loop μ-loop
+shared-slice-read-good-3 c = omega arith
+
+add-i : tie.Need-add-i Inv-loop μ-loop
+add-i c = omega arith
+
+loop-less : tie.Need-loop-less Inv-loop μ-loop
+loop-less c = omega arith
+
+loop-again : tie.Need-loop-again Inv-loop μ-loop
+loop-again c =
+    let l = c .before .before .before .before .loop in
+    let a = c .before .before .before .before .before .args in
+    (omega arith, rw (l .inv .1) (each-more (agreesAt (now (a .piece)) (now (a .out)) (now (a .marks))) (l .i)))
+
+returns : tie.Need-returns Inv-loop μ-loop
+unfolding agreeing
+returns c =
+    let l = c .before .loop in
+    let e : l .i ≡ length (now (c .before .before .args .piece)) = omega arith in
+    rw e at (l .inv .1)
+
+pub agrees-spec : {M : Type 1} → statement M
+agrees-spec =
+    tie.close
+    (tie.spec
+    Inv-loop
+    μ-loop
+    loop-holds
+    shared-slice-read-good
+    shared-slice-read-good-2
+    shared-slice-read-good-3
+    add-i
+    loop-less
+    loop-again
+    returns)

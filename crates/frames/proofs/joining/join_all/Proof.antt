@@ -1,0 +1,174 @@
+-- The loop keeps `Laying`: the pieces placed and the frames still to be read give what all frames give. Assumes nothing.
+use Prim.Native.Nat.{_-_}
+use mathlib.Core.Path.{sym, _∙_}
+use denote.Ref.{now}
+use lib.ListN.{length, drop, length-drop}
+use Rattle.wire.proofs.ListLaws.{part-to-end}
+use Rattle.frames.specs.Buffers.{Stepping}
+use Rattle.frames.specs.declared.joining.Step.the-variants as step
+use Rattle.frames.proofs.JoinLaws.{Laying, starts, goes-on, stops, ends-whole, ends-gap}
+use borrow.Author.Needs.{needs}
+use native.Mathlib.Omega.{arith}
+use Rattle.frames.proofs.joining.join_all.Statement.{statement}
+use Rattle.frames.proofs.joining.join_all.Tie as tie
+
+abbrev Inv-loop : tie.InvT-loop
+Inv-loop frames out₀ marks₀ at₀ end₀ out marks at end =
+    Laying frames out₀ marks₀ out marks at end
+
+abbrev μ-loop : tie.MeasureT-loop
+μ-loop frames out₀ marks₀ at₀ end₀ out marks at end =
+    length frames - at
+
+stepped : (c : tie.After-known-told Inv-loop μ-loop) →
+    let args = c .before .before .before .before .before .before .before .before .before .before .before .before .before .before .before .before .args in
+    let loop = c .before .before .before .before .before .before .before .before .before .before .before .before .loop in
+    let join-frame = c .before .before .before .before .before .before .before .join-frame in
+    Stepping (drop (loop .at) (now (args .frames))) (loop .out) (loop .marks) (loop .end) (step.Next (c .before .used .given .0 .0) (c .before .used .given .0 .1 .0)) (join-frame .last .1 .0) (join-frame .last .1 .1 .0)
+stepped c =
+    let args = c .before .before .before .before .before .before .before .before .before .before .before .before .before .before .before .before .args in
+    let loop = c .before .before .before .before .before .before .before .before .before .before .before .before .loop in
+    let join-frame = c .before .before .before .before .before .before .before .join-frame in
+    rw (part-to-end (now (args .frames)) (loop .at), c .before .used .given .1) at (join-frame .ensures)
+
+loop-holds : tie.Need-loop-holds Inv-loop μ-loop
+loop-holds c =
+    let start = c .before .before .before in
+    starts (now (start .args .frames)) (now (start .args .out)) (now (start .args .marks)) (start .pre .2) (start .pre .3)
+
+sub-join-frame : tie.Need-sub-join-frame Inv-loop μ-loop
+sub-join-frame c = omega arith
+
+part-join-frame-start : tie.Need-part-join-frame-start Inv-loop μ-loop
+part-join-frame-start c = search needs
+
+part-join-frame-end : tie.Need-part-join-frame-end Inv-loop μ-loop
+part-join-frame-end c = search needs
+
+join-frame-requires : tie.Need-join-frame-requires Inv-loop μ-loop
+join-frame-requires c κs =
+    let pre = c .before .before .before .before .before .before .before .before .pre in
+    let loop = c .before .before .before .before .loop in
+    (omega (arith, loop .inv .long, pre .0), omega (arith, loop .inv .wide, pre .1), loop .inv .ends)
+
+enum-known-used : tie.Need-enum-known-used Inv-loop μ-loop
+enum-known-used c = omega (arith, c .match .keys1)
+
+add-at : tie.Need-add-at Inv-loop μ-loop
+add-at c =
+    let args = c .before .before .before .before .before .before .before .before .before .before .before .before .before .before .before .before .args in
+    let loop = c .before .before .before .before .before .before .before .before .before .before .before .before .loop in
+    omega (arith, stepped c .bounds, length-drop (loop .at) (now (args .frames)))
+
+loop-less : tie.Need-loop-less Inv-loop μ-loop
+loop-less c =
+    let args = c .before .before .before .before .before .before .before .before .before .before .before .before .before .before .before .before .args in
+    let loop = c .before .before .before .before .before .before .before .before .before .before .before .before .loop in
+    omega (arith, stepped c .bounds, length-drop (loop .at) (now (args .frames)))
+
+loop-again : tie.Need-loop-again Inv-loop μ-loop
+loop-again c =
+    let loop = c .before .before .before .before .before .before .before .before .before .before .before .before .loop in
+    let loop-test = c .before .before .before .before .before .before .before .before .before .before .before .loop-test in
+    let join-frame = c .before .before .before .before .before .before .before .join-frame in
+    goes-on (loop .inv) (loop-test .taken) (stepped c) (join-frame .kept .1 .0) (join-frame .kept .1 .1 .0)
+
+enum-known-n : tie.Need-enum-known-n Inv-loop μ-loop
+enum-known-n c = omega (arith, c .match .keys2)
+
+same-length : tie.Need-same-length Inv-loop μ-loop
+same-length c =
+    let loop = c .before .before .before .before .before .before .before .before .before .before .before .before .loop in
+    let join-frame = c .before .before .before .before .before .before .before .join-frame in
+    join-frame .kept .1 .0 ∙ loop .inv .long
+
+same-length-2 : tie.Need-same-length-2 Inv-loop μ-loop
+same-length-2 c =
+    let loop = c .before .before .before .before .before .before .before .before .before .before .before .before .loop in
+    let join-frame = c .before .before .before .before .before .before .before .join-frame in
+    join-frame .kept .1 .1 .0 ∙ loop .inv .wide
+
+returns : tie.Need-returns Inv-loop μ-loop
+returns c =
+    let args = c .before .before .before .before .before .before .before .before .before .before .before .before .before .before .before .before .args in
+    let loop = c .before .before .before .before .before .before .before .before .before .before .before .before .loop in
+    let loop-test = c .before .before .before .before .before .before .before .before .before .before .before .loop-test in
+    let join-frame = c .before .before .before .before .before .before .before .join-frame in
+    let s = rw (part-to-end (now (args .frames)) (loop .at), c .before .n .given .1) at (join-frame .ensures) in
+    stops (loop .inv) (loop-test .taken) s
+
+sub-all-marked : tie.Need-sub-all-marked Inv-loop μ-loop
+sub-all-marked c = omega arith
+
+part-all-marked-start : tie.Need-part-all-marked-start Inv-loop μ-loop
+part-all-marked-start c = search needs
+
+part-all-marked-end : tie.Need-part-all-marked-end Inv-loop μ-loop
+part-all-marked-end c = search needs
+
+all-marked-requires : tie.Need-all-marked-requires Inv-loop μ-loop
+all-marked-requires c κs = search needs
+
+same-length-3 : tie.Need-same-length-3 Inv-loop μ-loop
+same-length-3 c =
+    let loop = c .before .before .before .before .before .loop in
+    loop .inv .long
+
+same-length-4 : tie.Need-same-length-4 Inv-loop μ-loop
+same-length-4 c =
+    let loop = c .before .before .before .before .before .loop in
+    loop .inv .wide
+
+returns-2 : tie.Need-returns-2 Inv-loop μ-loop
+returns-2 c =
+    let pre = c .before .before .before .before .before .before .before .before .before .pre in
+    let loop = c .before .before .before .before .before .loop in
+    let loop-test = c .before .before .before .before .loop-test in
+    ends-whole (loop .inv) (loop-test .left) (pre .0) (pre .1) (sym (c .before .all-marked .ensures) ∙ c .if1 .taken)
+
+same-length-5 : tie.Need-same-length-5 Inv-loop μ-loop
+same-length-5 c =
+    let loop = c .before .before .before .before .before .loop in
+    loop .inv .long
+
+same-length-6 : tie.Need-same-length-6 Inv-loop μ-loop
+same-length-6 c =
+    let loop = c .before .before .before .before .before .loop in
+    loop .inv .wide
+
+returns-3 : tie.Need-returns-3 Inv-loop μ-loop
+returns-3 c =
+    let pre = c .before .before .before .before .before .before .before .before .before .pre in
+    let loop = c .before .before .before .before .before .loop in
+    let loop-test = c .before .before .before .before .loop-test in
+    ends-gap (loop .inv) (loop-test .left) (pre .0) (pre .1) (sym (c .before .all-marked .ensures) ∙ c .if1 .left)
+
+pub join-all-spec : {M : Type 1} → statement M
+join-all-spec =
+    tie.close
+    (tie.spec
+    Inv-loop
+    μ-loop
+    loop-holds
+    sub-join-frame
+    part-join-frame-start
+    part-join-frame-end
+    join-frame-requires
+    enum-known-used
+    add-at
+    loop-less
+    loop-again
+    enum-known-n
+    same-length
+    same-length-2
+    returns
+    sub-all-marked
+    part-all-marked-start
+    part-all-marked-end
+    all-marked-requires
+    same-length-3
+    same-length-4
+    returns-2
+    same-length-5
+    same-length-6
+    returns-3)

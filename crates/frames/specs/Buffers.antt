@@ -1,0 +1,85 @@
+-- How output and marks carry the pieces placed so far: what the private functions of the joiner promise each other.
+use Prim.Native.Nat.{ℕ, _+_, _≤_}
+use mathlib.Core.Path.{_≡_}
+use mathlib.Core.Bool.{Bool, not, _||_}
+use mathlib.Core.List.{List}
+use lib.ListN.{length, take, drop, getD, replicate}
+use lib.Dec.{eqb, leb}
+use Rattle.wire.specs.Answer.{Answer, result, refused, ask, unlessRefused, IsNumber}
+use Rattle.wire.specs.Front.{frontAt}
+use Rattle.wire.specs.Sums.{indicator}
+use Rattle.frames.specs.Frame.{Piece}
+use Rattle.frames.specs.Read.{Shape, readFrame, extent}
+use Rattle.frames.specs.Stream.{filled, held, endOf, each, values}
+use Rattle.frames.specs.Join.{limit, placeFrame, join, ended, padded, endAnswer, JoinBounds}
+use Rattle.frames.specs.declared.joining.Joined.{Joined}
+use Rattle.frames.specs.declared.joining.Step.{Step}
+use Rattle.frames.specs.declared.joining.Step.the-variants as step
+
+-- 1 where pieces have a byte
+abbrev pub mark : List Piece → ℕ → ℕ
+mark placed i = indicator (filled placed i)
+
+-- the output holds the byte of each place, zero where there is none; the marks hold 1 where there is one
+pub record Carries (placed : List Piece) (out marks : List ℕ) (end : ℕ) : Type 0 where
+  pub bytes : out ≡ values (held placed) 0 (length out)
+  pub ones : marks ≡ values (mark placed) 0 (length marks)
+  pub ends : end ≡ endOf placed
+
+-- a piece agrees with what stands at its places, where a place that is not marked has nothing
+abbrev pub agreesAt : List ℕ → List ℕ → List ℕ → ℕ → Bool
+agreesAt piece out marks i = eqb (getD marks i 0) 0 || eqb (getD out i 0) (getD piece i 0)
+
+unfoldable pub agreeing : List ℕ → List ℕ → List ℕ → Bool
+agreeing piece out marks = each (agreesAt piece out marks) 0 (length piece)
+
+abbrev pub markedAt : List ℕ → ℕ → Bool
+markedAt marks i = not (eqb (getD marks i 0) 0)
+
+unfoldable pub marked : List ℕ → Bool
+marked marks = each (markedAt marks) 0 (length marks)
+
+-- questions 13 and 14, asked of the buffers
+unfoldable pub placeOn : ℕ → List ℕ → List ℕ → List ℕ → Answer ℕ
+placeOn offset piece out marks =
+    let n = length piece in
+    ask (leb (offset + n) limit) 13
+    (ask (agreeing piece (take n (drop offset out)) (take n (drop offset marks))) 14 (result (offset + n)))
+
+pub record Placing (offset : ℕ) (piece out marks : List ℕ) (r : Joined) (out′ marks′ : List ℕ) : Type 0 where
+  pub is : endAnswer r ≡ placeOn offset piece out marks
+  pub output : out′ ≡ unlessRefused (placeOn offset piece out marks) (λ e. frontAt offset piece out) out
+  pub ones : marks′ ≡ unlessRefused (placeOn offset piece out marks) (λ e. frontAt offset (replicate (length piece) 1) marks) marks
+  pub bounds : JoinBounds r
+
+abbrev pub StepBounds : ℕ → Step → Type 0
+StepBounds n (step.Next used e) = (1 ≤ used) × (used ≤ n) × (e ≤ limit)
+StepBounds n (step.Refused k) = IsNumber k
+
+-- a frame was read, and what it has was placed; or its number
+pub record Went (bs : List ℕ) (placed : List Piece) (used end : ℕ) (out marks : List ℕ) : Type 0 where
+  pub shape : Shape
+  pub more : List Piece
+  pub read : readFrame bs ≡ result shape
+  pub laid : placeFrame bs shape placed ≡ result more
+  pub width : used ≡ extent shape
+  pub carries : Carries more out marks end
+
+pub data Stopped (bs : List ℕ) (placed : List Piece) (n : ℕ) : Type 0 where
+  unread : readFrame bs ≡ refused n → Stopped bs placed n
+  unlaid : (f : Shape) → readFrame bs ≡ result f → placeFrame bs f placed ≡ refused n → Stopped bs placed n
+
+abbrev pub Stepped : List ℕ → List Piece → Step → List ℕ → List ℕ → Type 0
+Stepped bs placed (step.Next used e) out marks = Went bs placed used e out marks
+Stepped bs placed (step.Refused n) out marks = Stopped bs placed n
+
+pub record Stepping (bs out marks : List ℕ) (end : ℕ) (r : Step) (out′ marks′ : List ℕ) : Type 0 where
+  pub is : (placed : List Piece) → Carries placed out marks end → Stepped bs placed r out′ marks′
+  pub bounds : StepBounds (length bs) r
+
+-- all frames, on buffers that were all zero; a refusal leaves them to the caller
+pub record Joining (bs out marks : List ℕ) (r : Joined) (out′ marks′ : List ℕ) : Type 0 where
+  pub is : endAnswer r ≡ ended (join bs)
+  pub output : (s : List ℕ) → join bs ≡ result s → out′ ≡ padded s (length out)
+  pub ones : (s : List ℕ) → join bs ≡ result s → marks′ ≡ padded (replicate (length s) 1) (length marks)
+  pub bounds : JoinBounds r

@@ -1,0 +1,7 @@
+pub mod Frame
+pub mod Read
+pub mod Stream
+pub mod Join
+pub mod Buffers
+pub mod Cut
+pub mod Lists

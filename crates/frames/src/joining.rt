@@ -1,0 +1,164 @@
+// The joiner: frames in any order, with equal overlap, to the stream that they carry.
+ghost use Prim.Native.Nat.{_+_, _≤_, _<_, max};
+ghost use mathlib.Core.Path.{_≡_};
+ghost use lib.ListN.{length, replicate};
+ghost use Rattle.frames.specs.Join.{limit, roomy, Joins};
+ghost use Rattle.frames.specs.Buffers.{agreeing, marked, Placing, Stepping, Joining};
+use crate::reading::FrameRead;
+use crate::reading::read_frame;
+
+// The longest stream, and the least length of each buffer.
+const LIMIT: usize = 16384;
+
+// The end of the stream, or the number of the refusal.
+pub enum Joined {
+    End(usize),
+    Refused(u64),
+}
+
+// The bytes that a frame took, and the end of the stream so far; or the number of the refusal.
+pub enum Step {
+    Next(usize, usize),
+    Refused(u64),
+}
+
+// Sets every place to v.
+fn fill(out: &mut [u8], v: u8)
+    ensures { λ r. ⌜ now (out .exit) ≡ replicate (length (now (out .entry))) v ⌝ }
+{
+    let mut i: usize = 0;
+    while i < out.len() {
+        out[i] = v;
+        i = i + 1;
+    }
+}
+
+// Whether a piece agrees with what stands at its places: a place that is not marked holds nothing. There is no way out before the
+// end, so that the loop works on many places at once.
+fn agrees(piece: &[u8], out: &[u8], marks: &[u8]) -> bool
+    requires { ⌜ (length (now out) ≡ length (now piece)) × (length (now marks) ≡ length (now piece)) ⌝ }
+    ensures { λ r. ⌜ r ≡ agreeing (now (piece .entry)) (now (out .entry)) (now (marks .entry)) ⌝ }
+{
+    let mut good = true;
+    let mut i: usize = 0;
+    while i < piece.len() {
+        good = good & ((marks[i] == 0) | (out[i] == piece[i]));
+        i = i + 1;
+    }
+    good
+}
+
+// Whether every place is marked.
+fn all_marked(marks: &[u8]) -> bool
+    ensures { λ r. ⌜ r ≡ marked (now (marks .entry)) ⌝ }
+{
+    let mut good = true;
+    let mut i: usize = 0;
+    while i < marks.len() {
+        good = good & (marks[i] != 0);
+        i = i + 1;
+    }
+    good
+}
+
+// Places a piece at its offset, and gives its end: questions 13 and 14.
+fn place(offset: u64, piece: &[u8], out: &mut [u8], marks: &mut [u8]) -> Joined
+    requires { ⌜ (limit ≤ length (now out)) × (limit ≤ length (now marks)) ⌝ }
+    ensures { λ r. ⌜ Placing offset (now (piece .entry)) (now (out .entry)) (now (marks .entry)) r (now (out .exit)) (now (marks .exit)) ⌝ }
+{
+    if (LIMIT as u64) < offset {
+        return Joined::Refused(13);
+    }
+    let at = offset as usize;
+    if LIMIT - at < piece.len() {
+        return Joined::Refused(13);
+    }
+    let end = at + piece.len();
+    if !agrees(piece, &out[at..end], &marks[at..end]) {
+        return Joined::Refused(14);
+    }
+    wire::put_bytes(&mut out[at..end], piece);
+    fill(&mut marks[at..end], 1);
+    Joined::End(end)
+}
+
+fn later(a: usize, b: usize) -> usize
+    ensures { λ r. ⌜ r ≡ max a b ⌝ }
+{
+    if a < b { b } else { a }
+}
+
+// Reads the frame at the front of the input and places what it has.
+fn join_frame(input: &[u8], out: &mut [u8], marks: &mut [u8], end: usize) -> Step
+    requires { ⌜ (limit ≤ length (now out)) × (limit ≤ length (now marks)) × (end ≤ limit) ⌝ }
+    ensures { λ r. ⌜ Stepping (now (input .entry)) (now (out .entry)) (now (marks .entry)) end r (now (out .exit)) (now (marks .exit)) ⌝ }
+{
+    match read_frame(input) {
+        FrameRead::Padding => Step::Next(1, end),
+        FrameRead::Ping => Step::Next(1, end),
+        FrameRead::Crypto(c) => {
+            let start = c.start;
+            let after = c.end;
+            match place(c.offset, &input[start..after], out, marks) {
+                Joined::End(e) => Step::Next(after, later(end, e)),
+                Joined::Refused(n) => Step::Refused(n),
+            }
+        }
+        FrameRead::Refused(n) => Step::Refused(n),
+    }
+}
+
+// All frames, onto cleared buffers: questions 11 to 15.
+fn join_all(frames: &[u8], out: &mut [u8], marks: &mut [u8]) -> Joined
+    requires { ⌜ (limit ≤ length (now out)) × (limit ≤ length (now marks)) × (now out ≡ replicate (length (now out)) 0) × (now marks ≡ replicate (length (now marks)) 0) ⌝ }
+    ensures { λ r. ⌜ Joining (now (frames .entry)) (now (out .entry)) (now (marks .entry)) r (now (out .exit)) (now (marks .exit)) ⌝ }
+{
+    let mut at: usize = 0;
+    let mut end: usize = 0;
+    while at < frames.len() {
+        match join_frame(&frames[at..], out, marks, end) {
+            Step::Next(used, e) => {
+                at = at + used;
+                end = e;
+            }
+            Step::Refused(n) => {
+                return Joined::Refused(n);
+            }
+        }
+    }
+    if all_marked(&marks[0..end]) {
+        Joined::End(end)
+    } else {
+        Joined::Refused(15)
+    }
+}
+
+// Question 10, of both buffers.
+fn has_room(out: &[u8], marks: &[u8]) -> bool
+    ensures { λ r. ⌜ r ≡ roomy (now (out .entry)) (now (marks .entry)) ⌝ }
+{
+    if out.len() < LIMIT {
+        return false;
+    }
+    LIMIT <= marks.len()
+}
+
+// Joins frames. On success the output holds the stream and then zeros, the marks ones up to its end and then zeros. Refusal 10, where a
+// buffer has fewer than 16,384 bytes, leaves both; 11 to 15 leave both all zero.
+pub fn reassemble_crypto(frames: &[u8], out: &mut [u8], marks: &mut [u8]) -> Joined
+    ensures { λ r. ⌜ Joins (now (frames .entry)) (now (out .entry)) (now (marks .entry)) r (now (out .exit)) (now (marks .exit)) ⌝ }
+{
+    if !has_room(out, marks) {
+        return Joined::Refused(10);
+    }
+    fill(out, 0);
+    fill(marks, 0);
+    match join_all(frames, out, marks) {
+        Joined::End(end) => Joined::End(end),
+        Joined::Refused(n) => {
+            fill(out, 0);
+            fill(marks, 0);
+            Joined::Refused(n)
+        }
+    }
+}
