@@ -1,0 +1,3 @@
+pub mod Promises
+pub mod RecordLaws
+pub mod Samples
