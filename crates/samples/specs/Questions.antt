@@ -4,19 +4,35 @@ use mathlib.Core.List.{List, [], _∷_}
 use Rattle.wire.specs.Answer.{Answer, result, refused}
 use Rattle.varint.specs.Varint.{sizeOf, readOf}
 use Rattle.varint.specs.declared.Varint.{Varint}
+use Rattle.frames.specs.Join.{join}
 
 pub data Question : Type 0 where
   reading : List ℕ → Question
   width-of : ℕ → Question
+  joining : List ℕ → Question
+
+-- what a sample gives: a number, or bytes
+pub data Value : Type 0 where
+  number : ℕ → Value
+  bytes : List ℕ → Value
 
 -- the one number that a sample gives for a read: its value
-abbrev pub valueIn : Answer Varint → Answer ℕ
-valueIn (result x) = result (x .value)
-valueIn (refused n) = refused n
+abbrev pub readValue : Answer Varint → Answer Value
+readValue (result x) = result (number (x .value))
+readValue (refused n) = refused n
 
-abbrev pub answer : Question → Answer ℕ
-answer (reading s) = valueIn (readOf s)
-answer (width-of v) = sizeOf v
+abbrev pub sizeValue : Answer ℕ → Answer Value
+sizeValue (result w) = result (number w)
+sizeValue (refused n) = refused n
+
+abbrev pub joinValue : Answer (List ℕ) → Answer Value
+joinValue (result s) = result (bytes s)
+joinValue (refused n) = refused n
+
+abbrev pub answer : Question → Answer Value
+answer (reading s) = readValue (readOf s)
+answer (width-of v) = sizeValue (sizeOf v)
+answer (joining s) = joinValue (join s)
 
 abbrev pub questions : List Question
 questions =
@@ -29,15 +45,25 @@ questions =
     ∷ width-of 63
     ∷ width-of 64
     ∷ width-of (2 ^ 62)
+    -- "06 01 01 bb 06 00 01 aa joins to aa bb, and so does 06 00 02 aa bb 06 01 01 bb"
+    ∷ joining (0x06 ∷ 0x01 ∷ 0x01 ∷ 0xbb ∷ 0x06 ∷ 0x00 ∷ 0x01 ∷ 0xaa ∷ [])
+    ∷ joining (0x06 ∷ 0x00 ∷ 0x02 ∷ 0xaa ∷ 0xbb ∷ 0x06 ∷ 0x01 ∷ 0x01 ∷ 0xbb ∷ [])
+    -- "06 00 01 aa 06 00 01 ab gives 14; 06 01 01 bb gives 15"
+    ∷ joining (0x06 ∷ 0x00 ∷ 0x01 ∷ 0xaa ∷ 0x06 ∷ 0x00 ∷ 0x01 ∷ 0xab ∷ [])
+    ∷ joining (0x06 ∷ 0x01 ∷ 0x01 ∷ 0xbb ∷ [])
     ∷ []
 
-abbrev pub answers : List (Answer ℕ)
+abbrev pub answers : List (Answer Value)
 answers =
-    result 37
-    ∷ result 37
-    ∷ result 15293
-    ∷ result 494878333
-    ∷ result 1
-    ∷ result 2
+    result (number 37)
+    ∷ result (number 37)
+    ∷ result (number 15293)
+    ∷ result (number 494878333)
+    ∷ result (number 1)
+    ∷ result (number 2)
     ∷ refused 1
+    ∷ result (bytes (0xaa ∷ 0xbb ∷ []))
+    ∷ result (bytes (0xaa ∷ 0xbb ∷ []))
+    ∷ refused 14
+    ∷ refused 15
     ∷ []
