@@ -1,6 +1,9 @@
 //! Compares the original Rust with the library of this repository, and times both (compare/README.md).
 //! Each part of the original has a module here with `compare`, and `time` and `sample` where it has them.
 
+mod captures;
+mod cut;
+mod join;
 mod noise {
     pub(crate) mod quic;
 }
@@ -9,11 +12,15 @@ mod panics;
 mod random;
 mod sample;
 mod script;
+mod sides;
+mod split;
 mod tally;
 mod tape;
 mod timing;
 mod varint;
 
+use captures::Capture;
+use std::path::Path;
 use std::process::ExitCode;
 use tally::Tally;
 
@@ -23,19 +30,35 @@ fn main() -> ExitCode {
     let words: Vec<String> = std::env::args().skip(1).collect();
     let words: Vec<&str> = words.iter().map(String::as_str).collect();
     match words[..] {
-        [] => compare_all(),
-        ["--sample", folder, origin] => sample::write(folder, origin, &varint::sample()),
-        _ => {
-            eprintln!("usage: driver [--sample FOLDER ORIGIN]");
-            ExitCode::from(2)
-        }
+        ["--captures", folder] => match captures::read(Path::new(folder)) {
+            Ok(captures) => compare_all(&captures),
+            Err(error) => stop(&format!("{folder}: {error}")),
+        },
+        ["--sample", folder, origin] => sample::write(folder, origin, &samples()),
+        _ => stop("usage: driver --captures FOLDER | --sample FOLDER ORIGIN"),
     }
 }
 
-fn compare_all() -> ExitCode {
+fn stop(why: &str) -> ExitCode {
+    eprintln!("{why}");
+    ExitCode::from(2)
+}
+
+fn compare_all(captures: &[Capture]) -> ExitCode {
     let mut tally = Tally::default();
     varint::compare(&mut tally);
+    join::compare(&mut tally, captures);
+    cut::compare(&mut tally);
+    split::compare(&mut tally);
     timing::print_how();
     varint::time(&mut tally);
+    join::time(&mut tally, captures);
     tally.verdict()
+}
+
+fn samples() -> Vec<sample::Section> {
+    [varint::sample(), join::sample(), split::sample()]
+        .into_iter()
+        .flatten()
+        .collect()
 }

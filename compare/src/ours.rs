@@ -10,11 +10,36 @@ mod archive {
         pub(super) fn compare_varint_value(input: *const u8, input_len: usize) -> u64;
         pub(super) fn compare_varint_width(input: *const u8, input_len: usize) -> u64;
         pub(super) fn compare_varint_sum(input: *const u8, input_len: usize) -> u64;
+        pub(super) fn compare_join(
+            frames: *const u8,
+            frames_len: usize,
+            out: *mut u8,
+            out_len: usize,
+            marks: *mut u8,
+            marks_len: usize,
+        ) -> u64;
+        pub(super) fn compare_frames(
+            c: u64,
+            hello: *const u8,
+            hello_len: usize,
+            out: *mut u8,
+            out_len: usize,
+        ) -> u64;
+        pub(super) fn compare_next(blob: *const u8, blob_len: usize, place: usize) -> u64;
+        pub(super) fn compare_record(
+            blob: *const u8,
+            blob_len: usize,
+            place: usize,
+            out: *mut u8,
+            out_len: usize,
+        ) -> u64;
     }
 }
 
-/// Where refusals begin among the numbers of a call that gives a width.
+/// Where refusals begin among the numbers of a call that gives a width, a length or a place.
 const REFUSED: u64 = 1 << 32;
+/// What the splitter gives at the end.
+const END: u64 = 1 << 33;
 /// The same for a call that gives a varint's value, which may be any number below 2^62.
 const VALUE_REFUSED: u64 = 1 << 63;
 
@@ -53,4 +78,57 @@ pub(crate) fn varint_width(input: &[u8]) -> Told {
 pub(crate) fn varint_sum(input: &[u8]) -> u64 {
     // SAFETY: pointer and length are those of one slice, which the call reads.
     unsafe { archive::compare_varint_sum(input.as_ptr(), input.len()) }
+}
+
+/// The end of the joined stream.
+pub(crate) fn join(frames: &[u8], out: &mut [u8], marks: &mut [u8]) -> Told {
+    // SAFETY: each pointer and length are those of one slice; the call reads the first, and the two others are lent to
+    // nobody else.
+    let number = unsafe {
+        archive::compare_join(
+            frames.as_ptr(),
+            frames.len(),
+            out.as_mut_ptr(),
+            out.len(),
+            marks.as_mut_ptr(),
+            marks.len(),
+        )
+    };
+    told(number, REFUSED)
+}
+
+/// The length of the frames of `c` data bytes that a hello is cut into.
+pub(crate) fn frames(c: u64, hello: &[u8], out: &mut [u8]) -> Told {
+    // SAFETY: each pointer and length are those of one slice; the call reads the first, and the other is lent to nobody else.
+    let number = unsafe {
+        archive::compare_frames(c, hello.as_ptr(), hello.len(), out.as_mut_ptr(), out.len())
+    };
+    told(number, REFUSED)
+}
+
+/// The place after the record that stands at a place of a blob; `None` at the end.
+pub(crate) fn next_record(blob: &[u8], place: usize) -> Result<Option<u64>, u64> {
+    // SAFETY: pointer and length are those of one slice, which the call reads.
+    match unsafe { archive::compare_next(blob.as_ptr(), blob.len(), place) } {
+        END => Ok(None),
+        number => told(number, REFUSED).map(Some),
+    }
+}
+
+/// The part of the blob that the splitter hands back.
+pub(crate) fn split_records(blob: &[u8], place: usize) -> Vec<u8> {
+    let mut out = vec![0; blob.len()];
+    // SAFETY: each pointer and length are those of one slice; the call reads the first, and the other is lent to nobody else.
+    let number = unsafe {
+        archive::compare_record(
+            blob.as_ptr(),
+            blob.len(),
+            place,
+            out.as_mut_ptr(),
+            out.len(),
+        )
+    };
+    let length = told(number, REFUSED).expect("no part is longer than its blob");
+    out.truncate(length as usize);
+    out
 }

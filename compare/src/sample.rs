@@ -1,5 +1,6 @@
 //! The sample of the original's answers that the gate replays where there is no Rust: a script, and the answers.
 
+use crate::sides::Ask;
 use std::fs;
 use std::io::Result;
 use std::path::Path;
@@ -9,6 +10,15 @@ pub(crate) struct Section {
     pub(crate) title: String,
     /// Each question with its answer.
     pub(crate) lines: Vec<(String, String)>,
+}
+
+/// Questions, each with the original's answer.
+pub(crate) fn section<Q: Ask>(title: &str, questions: impl IntoIterator<Item = Q>) -> Section {
+    let answered = |question: Q| (question.to_string(), question.by_rust().to_string());
+    Section {
+        title: title.to_string(),
+        lines: questions.into_iter().map(answered).collect(),
+    }
 }
 
 /// Writes the files `stdin` and `stdout` of `folder`. `origin` is the original's repository and commit.
@@ -31,7 +41,8 @@ fn texts(origin: &str, sections: &[Section]) -> (String, String) {
     let mut script = format!(
         "# Made by compare/run --sample; the answers in the file stdout are the original Rust's, built unchanged from\n\
          # {origin}, folder boringtun/src/noise/quic.\n\
-         # A panic of the Rust's size and write is written as refused 1, None of its read as refused 3.\n"
+         # A panic of the Rust's size and write is written as refused 1, None of its read as refused 3, a panic of its\n\
+         # split_records as refused 27. An output and marks are what document 01 makes of the stream that the Rust joins.\n"
     );
     let mut answers = String::new();
     for section in sections {

@@ -28,3 +28,9 @@ impl Display for Bytes<'_> {
         Ok(())
     }
 }
+
+/// The bytes of hex as a script has it.
+pub(crate) fn hex(text: &str) -> Vec<u8> {
+    let byte = |place| u8::from_str_radix(&text[place..place + 2], 16).expect("hex");
+    (0..text.len()).step_by(2).map(byte).collect()
+}

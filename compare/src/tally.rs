@@ -20,13 +20,36 @@ impl Tally {
         rust: &A,
         ours: &A,
     ) {
+        self.judge(question, ["Rust", "ours"], [rust, ours]);
+    }
+
+    /// Counts one answer of one side, `who`, to a question whose answer is known beforehand.
+    pub(crate) fn expect<A: PartialEq + Display>(
+        &mut self,
+        question: &impl Display,
+        who: &str,
+        known: &A,
+        given: &A,
+    ) {
+        self.judge(question, ["to be", who], [known, given]);
+    }
+
+    fn judge<A: PartialEq + Display>(
+        &mut self,
+        question: &impl Display,
+        who: [&str; 2],
+        answers: [&A; 2],
+    ) {
         self.compared += 1;
-        if rust == ours {
+        if answers[0] == answers[1] {
             return;
         }
         self.differing += 1;
         if self.differing <= SHOWN {
-            println!("differs: {question}\n  Rust: {rust}\n  ours: {ours}");
+            println!("differs: {question}");
+            for (who, answer) in who.iter().zip(answers) {
+                println!("  {who}: {answer}");
+            }
         } else if self.differing == SHOWN + 1 {
             println!("more differ; they are counted and not shown");
         }

@@ -1,4 +1,4 @@
-//! Times two ways of doing the same work, in turn, so that what slows the machine slows both.
+//! Times several ways of doing the same work, in turn, so that what slows the machine slows all of them.
 
 use std::hint::black_box;
 use std::time::Instant;
@@ -10,7 +10,7 @@ const REPEATS: usize = 16;
 
 /// Says once, before the times, how they were taken.
 pub(crate) fn print_how() {
-    println!("times: medians of {ROUNDS} rounds in one process, the two sides in turn; no buffer is cleared;");
+    println!("times: medians of {ROUNDS} rounds in one process, the sides in turn;");
     println!("one call of ours is a call into the archive, one of the Rust's may be inlined");
 }
 
@@ -27,25 +27,43 @@ pub(crate) fn in_turn(
     mut ours: impl FnMut() -> u64,
     mut rust: impl FnMut() -> u64,
 ) -> Timed {
-    let mut times = Vec::with_capacity(ROUNDS);
-    for round in 0..WARM_UP + ROUNDS {
-        // Who goes first changes, since the second may find the caches warmer.
-        let pair = if round % 2 == 0 {
-            let first = nanoseconds(&mut ours);
-            (first, nanoseconds(&mut rust))
-        } else {
-            let first = nanoseconds(&mut rust);
-            (nanoseconds(&mut ours), first)
-        };
-        if WARM_UP <= round {
-            times.push(pair);
-        }
-    }
-    let each = (REPEATS * pieces) as f64;
+    let rounds = Rounds::run(pieces, [&mut ours, &mut rust]);
     Timed {
-        ours: median(times.iter().map(|(ours, _)| ours / each)),
-        rust: median(times.iter().map(|(_, rust)| rust / each)),
-        ratio: median(times.iter().map(|(ours, rust)| ours / rust)),
+        ours: rounds.time(0),
+        rust: rounds.time(1),
+        ratio: rounds.ratio(0, 1),
+    }
+}
+
+/// The nanoseconds that each of the ways took for one piece of work, round by round.
+pub(crate) struct Rounds<const N: usize>(Vec<[f64; N]>);
+
+impl<const N: usize> Rounds<N> {
+    pub(crate) fn run(pieces: usize, mut ways: [&mut dyn FnMut() -> u64; N]) -> Self {
+        let each = (REPEATS * pieces) as f64;
+        let mut times = Vec::with_capacity(ROUNDS);
+        for round in 0..WARM_UP + ROUNDS {
+            let mut taken = [0.0; N];
+            // Who goes first changes, since a later one may find the caches warmer.
+            for turn in 0..N {
+                let way = (round + turn) % N;
+                taken[way] = nanoseconds(&mut ways[way]) / each;
+            }
+            if WARM_UP <= round {
+                times.push(taken);
+            }
+        }
+        Rounds(times)
+    }
+
+    /// The median time of a way.
+    pub(crate) fn time(&self, way: usize) -> f64 {
+        median(self.0.iter().map(|taken| taken[way]))
+    }
+
+    /// The median of the rounds' own ratios of two ways.
+    pub(crate) fn ratio(&self, way: usize, to: usize) -> f64 {
+        median(self.0.iter().map(|taken| taken[way] / taken[to]))
     }
 }
 

@@ -5,12 +5,13 @@ mod sample;
 mod timing;
 
 pub(crate) use sample::sample;
-pub(crate) use timing::time;
+pub(crate) use timing::{longer, time};
 
 use crate::random::Random;
+use crate::sides::Sides;
 use crate::tally::Tally;
-use question::{by_ours, by_rust, Question};
-use std::collections::{BTreeSet, HashSet};
+use question::Question;
+use std::collections::BTreeSet;
 
 const SEED: u64 = 0x6372_7573_7464_656c;
 /// Random questions of each call.
@@ -21,10 +22,7 @@ const LONGEST: usize = 9;
 const UNTOUCHED: u8 = 0xa5;
 
 pub(crate) fn compare(tally: &mut Tally) {
-    let mut sides = Sides {
-        tally,
-        asked: HashSet::new(),
-    };
+    let mut sides = Sides::new(tally);
     let mut values = near_ceilings();
     values.extend(0..=300);
     for value in values {
@@ -50,32 +48,6 @@ pub(crate) fn compare(tally: &mut Tally) {
         let length = random.below(64);
         Question::Sum(random.bytes(length))
     });
-}
-
-/// Puts each question to both sides, once.
-struct Sides<'a> {
-    tally: &'a mut Tally,
-    asked: HashSet<Question>,
-}
-
-impl Sides<'_> {
-    /// Whether the question was a new one.
-    fn ask(&mut self, question: Question) -> bool {
-        if self.asked.contains(&question) {
-            return false;
-        }
-        self.tally
-            .count(&question, &by_rust(&question), &by_ours(&question));
-        self.asked.insert(question)
-    }
-
-    /// Asks `count` new questions. Short ones are soon used up, so `draw` may run more often.
-    fn ask_random(&mut self, count: usize, mut draw: impl FnMut() -> Question) {
-        let mut asked = 0;
-        while asked < count {
-            asked += usize::from(self.ask(draw()));
-        }
-    }
 }
 
 /// The values up to three away from 2^6, 2^14, 2^30 and 2^62, where the width changes or ends, and from 2^63 and 2^64,

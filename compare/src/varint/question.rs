@@ -4,6 +4,7 @@ use crate::noise::quic::varint;
 use crate::ours::{self, Told};
 use crate::panics::unless_it_panics;
 use crate::script::Bytes;
+use crate::sides::Ask;
 use std::fmt::{Display, Formatter, Result};
 
 /// A call with its operands. Shown as a line of a script, but `Sum`, which no script has: it is there for the timing.
@@ -24,22 +25,42 @@ pub(crate) enum Answer {
     Sum(u64),
 }
 
-/// The original's answer, with a panic turned into refusal 1 and `None` into 3.
-pub(crate) fn by_rust(question: &Question) -> Answer {
-    match question {
-        Question::Size(value) => {
-            let size = unless_it_panics(|| varint::size(*value) as u64);
-            Answer::Size(size.ok_or(1))
-        }
-        Question::Write(value, out) => write_by_rust(*value, out),
-        Question::Read(input) => {
-            let read = varint::read(input).ok_or(3);
-            Answer::Read {
-                value: read.map(|(value, _)| value),
-                width: read.map(|(_, width)| width as u64),
+impl Ask for Question {
+    type Answer = Answer;
+
+    /// A panic is turned into refusal 1 and `None` into 3.
+    fn by_rust(&self) -> Answer {
+        match self {
+            Question::Size(value) => {
+                let size = unless_it_panics(|| varint::size(*value) as u64);
+                Answer::Size(size.ok_or(1))
             }
+            Question::Write(value, out) => write_by_rust(*value, out),
+            Question::Read(input) => {
+                let read = varint::read(input).ok_or(3);
+                Answer::Read {
+                    value: read.map(|(value, _)| value),
+                    width: read.map(|(_, width)| width as u64),
+                }
+            }
+            Question::Sum(input) => Answer::Sum(sum_by_rust(input)),
         }
-        Question::Sum(input) => Answer::Sum(sum_by_rust(input)),
+    }
+
+    fn by_ours(&self) -> Answer {
+        match self {
+            Question::Size(value) => Answer::Size(ours::varint_size(*value)),
+            Question::Write(value, out) => {
+                let mut out = out.clone();
+                let width = ours::varint_write(*value, &mut out);
+                Answer::Write { width, out }
+            }
+            Question::Read(input) => Answer::Read {
+                value: ours::varint_value(input),
+                width: ours::varint_width(input),
+            },
+            Question::Sum(input) => Answer::Sum(ours::varint_sum(input)),
+        }
     }
 }
 
@@ -68,22 +89,6 @@ pub(crate) fn sum_by_rust(mut input: &[u8]) -> u64 {
         input = &input[width..];
     }
     sum
-}
-
-pub(crate) fn by_ours(question: &Question) -> Answer {
-    match question {
-        Question::Size(value) => Answer::Size(ours::varint_size(*value)),
-        Question::Write(value, out) => {
-            let mut out = out.clone();
-            let width = ours::varint_write(*value, &mut out);
-            Answer::Write { width, out }
-        }
-        Question::Read(input) => Answer::Read {
-            value: ours::varint_value(input),
-            width: ours::varint_width(input),
-        },
-        Question::Sum(input) => Answer::Sum(ours::varint_sum(input)),
-    }
 }
 
 impl Display for Question {

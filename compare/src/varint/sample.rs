@@ -1,12 +1,12 @@
 //! The questions on varints in the sample that crates/replay runs. Each is one that the original itself answers, so no
 //! output is too short.
 
-use super::question::{by_rust, Question};
+use super::question::Question;
 use super::{near_ceilings, with_first_byte, LONGEST, UNTOUCHED};
 use crate::noise::quic::varint;
 use crate::panics::unless_it_panics;
 use crate::random::Random;
-use crate::sample::Section;
+use crate::sample::{section, Section};
 
 const SEED: u64 = 0x7265_706c_6179_0001;
 
@@ -36,14 +36,6 @@ pub(crate) fn sample() -> Vec<Section> {
     sections.push(section(&title("write"), writes));
     sections.push(section(&title("read"), reads));
     sections
-}
-
-fn section(title: &str, questions: impl IntoIterator<Item = Question>) -> Section {
-    let answered = |question: Question| (question.to_string(), by_rust(&question).to_string());
-    Section {
-        title: title.to_string(),
-        lines: questions.into_iter().map(answered).collect(),
-    }
 }
 
 /// The width of `value`. One that has none needs no room: it is refused before the output is asked about.

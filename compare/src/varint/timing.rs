@@ -1,9 +1,10 @@
 //! Varints against the clock: a run of reads, which has an aim, and single calls, which have none.
 
-use super::question::{by_ours, by_rust, sum_by_rust, Question};
+use super::question::{sum_by_rust, Question};
 use crate::noise::quic::varint;
 use crate::ours;
 use crate::random::Random;
+use crate::sides::Ask;
 use crate::tally::Tally;
 use crate::timing::{in_turn, Timed};
 use std::hint::black_box;
@@ -19,7 +20,7 @@ pub(crate) fn time(tally: &mut Tally) {
     let (values, varints) = values_and_varints();
     let run = varints.concat();
     let question = Question::Sum(run.clone());
-    tally.count(&question, &by_rust(&question), &by_ours(&question));
+    tally.count(&question, &question.by_rust(), &question.by_ours());
 
     let Timed { ours, rust, ratio } = time_run(&run);
     let met = if ratio <= AIM { "met" } else { "not met" };
@@ -53,7 +54,7 @@ fn values_and_varints() -> (Vec<u64>, Vec<Vec<u8>>) {
 }
 
 /// The same value in the next width: twice as many bytes, and the first byte's top two bits one more.
-fn longer(bytes: &[u8]) -> Vec<u8> {
+pub(crate) fn longer(bytes: &[u8]) -> Vec<u8> {
     let mut long = vec![0; bytes.len()];
     long.extend(bytes);
     long[bytes.len()] &= 0x3f;

@@ -1,9 +1,14 @@
-// The varints for compare/, which holds them against the Rust: numbers and byte slices, with C's calling convention.
+// The calls for compare/, which holds them against the Rust: numbers and byte slices, with C's calling convention.
 ghost use mathlib.Core.Path.{_≡_};
 ghost use Prim.Native.Nat.{_^_};
 ghost use Rattle.wire.specs.Answer.{coded};
 ghost use Rattle.varint.specs.Varint.{sizeOf, readOf};
+ghost use Rattle.records.specs.Records.{recordAt};
 ghost use Rattle.compare_c.specs.Sums.{codedValue, codedWidth, sumOf, PutCoded};
+ghost use Rattle.compare_c.specs.Calls.{codedNext, JoinCoded, CutCoded, PartCoded};
+use frames::cutting::Cut;
+use frames::joining::Joined;
+use records::Next;
 use varint::Got;
 use varint::Width;
 
@@ -69,4 +74,50 @@ pub extern "C" fn compare_varint_sum(input: &[u8]) -> u64
         }
     }
     sum
+}
+
+// The end of the stream, or 2^32 plus the number.
+#[no_mangle]
+pub extern "C" fn compare_join(frames: &[u8], out: &mut [u8], marks: &mut [u8]) -> u64
+    ensures { λ r. ⌜ JoinCoded (now (frames .entry)) (now (out .entry)) (now (marks .entry)) r (now (out .exit)) (now (marks .exit)) ⌝ }
+{
+    match frames::joining::reassemble_crypto(frames, out, marks) {
+        Joined::End(end) => end as u64,
+        Joined::Refused(n) => 4294967296 + n,
+    }
+}
+
+// The length of all frames, or 2^32 plus the number.
+#[no_mangle]
+pub extern "C" fn compare_frames(c: u64, hello: &[u8], out: &mut [u8]) -> u64
+    ensures { λ r. ⌜ CutCoded c (now (hello .entry)) (now (out .entry)) r (now (out .exit)) ⌝ }
+{
+    match frames::cutting::write_frames(c, hello, out) {
+        Cut::Length(length) => length as u64,
+        Cut::Refused(n) => 4294967296 + n,
+    }
+}
+
+// The place after the record, 2^33 at the end, or 2^32 plus the number.
+#[no_mangle]
+pub extern "C" fn compare_next(blob: &[u8], place: usize) -> u64
+    ensures { λ r. ⌜ r ≡ codedNext (recordAt (now (blob .entry)) place) ⌝ }
+{
+    match records::next_record(blob, place) {
+        Next::Record(after) => after as u64,
+        Next::End => 8589934592,
+        Next::Refused(n) => 4294967296 + n,
+    }
+}
+
+// The length of the part that the splitter hands back, which is copied to the output's front; 2^32 where that is too short.
+#[no_mangle]
+pub extern "C" fn compare_record(blob: &[u8], place: usize, out: &mut [u8]) -> u64
+    ensures { λ r. ⌜ PartCoded (now (blob .entry)) place (now (out .entry)) r (now (out .exit)) ⌝ }
+{
+    let part = records::split_records(blob, place);
+    if out.len() < part.len() {
+        return 4294967296;
+    }
+    wire::put_bytes(out, part) as u64
 }

@@ -4,7 +4,6 @@ use native.Mathlib.Omega.{arith}
 use mathlib.Core.Path.{sym}
 use denote.Ref.{now}
 use lib.ListN.{length, drop}
-use Rattle.wire.specs.Answer.{result}
 use Rattle.wire.proofs.ListLaws.{part-to-end}
 use Rattle.compare_c.proofs.SumLaws.{Summing, starts, goes-on, stops, ends}
 use Rattle.varint.specs.Varint.{Found}

@@ -1,0 +1,36 @@
+//! Greetings that real programs sent: their hello, and the plaintext frames of their Initial packets, also with
+//! retransmissions where there were any (the folder's own README.md).
+
+use std::fs;
+use std::io::Result;
+use std::path::Path;
+
+pub(crate) struct Capture {
+    /// The file of the frames.
+    pub(crate) name: String,
+    pub(crate) frames: Vec<u8>,
+    pub(crate) hello: Vec<u8>,
+    /// Whether frames were sent again, so that some overlap.
+    pub(crate) resent: bool,
+}
+
+/// Each list of frames in the folder with its hello, by name.
+pub(crate) fn read(folder: &Path) -> Result<Vec<Capture>> {
+    let mut captures = Vec::new();
+    for entry in fs::read_dir(folder)? {
+        let name = entry?.file_name().to_string_lossy().into_owned();
+        let Some(stem) = name.strip_suffix(".frames.bin") else {
+            continue;
+        };
+        let again = stem.strip_suffix(".retrans");
+        let hello = format!("{}.hello.bin", again.unwrap_or(stem));
+        captures.push(Capture {
+            frames: fs::read(folder.join(&name))?,
+            hello: fs::read(folder.join(hello))?,
+            resent: again.is_some(),
+            name,
+        });
+    }
+    captures.sort_by(|a, b| a.name.cmp(&b.name));
+    Ok(captures)
+}
