@@ -1,1 +1,1 @@
-pub mod AnswerLaws
+pub mod FitLaws

@@ -1,48 +1,55 @@
-// A function for each command: its operands, the call, and the text of its answer.
+// A function for each command: its operands, and the call that answers it.
 ghost use Prim.Native.Nat.{_≤_};
+ghost use mathlib.Core.Path.{_≡_};
 ghost use lib.ListN.{length};
-ghost use Rattle.varint.specs.Varint.{sizeOf, writeOf, afterWrite, readOf};
-ghost use Rattle.runner.specs.Bounds.{saidCount};
-ghost use Rattle.runner.specs.Answers.{sizeParts, writeParts, readParts, Says};
-use crate::notes::Fault;
+ghost use Rattle.runner.specs.Bounds.{Fits};
 use crate::operands::Operand;
 use crate::operands::read_operand;
+use answers::Fault;
+use answers::Said;
 use lines::words::has_operands;
 use lines::words::word_at;
 use script::reading::Number;
 use script::reading::read_number;
-use script::writing::put_number;
-use script::writing::put_number_and_bytes;
-use script::writing::put_two_numbers;
-use varint::Got;
-use varint::Width;
 
-// What a line is answered: so many bytes of text; the same with the number of a refusal; or an error.
-pub enum Said {
-    Answer(usize),
-    Refused(usize, u64),
-    Error(Fault),
+// The script language allows an operand of 131,072 bytes.
+const OPERAND: usize = 131072;
+
+// The buffer of an operand. As a call of its own it costs the proofs of its users nothing, where the array itself would.
+fn room() -> [u8; OPERAND] {
+    [0u8; OPERAND]
 }
 
-pub fn command(line: &[u8], operand: &mut [u8], out: &mut [u8]) -> Said
-    ensures { λ r. ⌜ saidCount r ≤ length (now (out .entry)) ⌝ }
+// Answers a line. The first bytes of `last`, `kept` of them, are those of the last answer that handed some back.
+pub fn command(line: &[u8], last: &mut [u8], kept: usize, out: &mut [u8]) -> Said
+    requires { ⌜ kept ≤ length (now last) ⌝ }
+    ensures { λ r. ⌜ Fits kept (length (now (last .entry))) (length (now (out .entry))) r ⌝ }
 {
     let name = word_at(line, 0);
     if check::same(name, b"size") {
         return size(line, out);
     }
     if check::same(name, b"write") {
-        return write(line, operand, out);
+        return write(line, &last[0..kept], out);
     }
     if check::same(name, b"read") {
-        return read(line, operand, out);
+        return read(line, &last[0..kept], out);
+    }
+    if check::same(name, b"join") {
+        return join(line, last, kept, out);
+    }
+    if check::same(name, b"frames") {
+        return frames(line, last, kept, out);
+    }
+    if check::same(name, b"split") {
+        return split(line, last, kept, out);
     }
     Said::Error(Fault::NoCommand)
 }
 
 // size VALUE
 fn size(line: &[u8], out: &mut [u8]) -> Said
-    ensures { λ r. ⌜ saidCount r ≤ length (now (out .entry)) ⌝ }
+    ensures { λ r. ⌜ Fits 0 0 (length (now (out .entry))) r ⌝ }
 {
     if !has_operands(line, 1) {
         return Said::Error(Fault::Count);
@@ -50,21 +57,12 @@ fn size(line: &[u8], out: &mut [u8]) -> Said
     let Number::Value(value) = read_number(word_at(line, 1)) else {
         return Said::Error(Fault::NoNumber);
     };
-    say_size(value, out)
-}
-
-fn say_size(value: u64, out: &mut [u8]) -> Said
-    ensures { λ r. ⌜ Says (sizeOf value) (sizeParts (sizeOf value)) r (now (out .entry)) (now (out .exit)) ⌝ }
-{
-    match varint::size(value) {
-        Width::Bytes(width) => Said::Answer(put_number(out, b"width ", width as u64)),
-        Width::Refused(number) => Said::Refused(put_number(out, b"refused ", number), number),
-    }
+    answers::say_size(value, out)
 }
 
 // write VALUE OUT
-fn write(line: &[u8], operand: &mut [u8], out: &mut [u8]) -> Said
-    ensures { λ r. ⌜ saidCount r ≤ length (now (out .entry)) ⌝ }
+fn write(line: &[u8], last: &[u8], out: &mut [u8]) -> Said
+    ensures { λ r. ⌜ Fits 0 0 (length (now (out .entry))) r ⌝ }
 {
     if !has_operands(line, 2) {
         return Said::Error(Fault::Count);
@@ -72,53 +70,121 @@ fn write(line: &[u8], operand: &mut [u8], out: &mut [u8]) -> Said
     let Number::Value(value) = read_number(word_at(line, 1)) else {
         return Said::Error(Fault::NoNumber);
     };
-    match read_operand(word_at(line, 2), operand) {
-        Operand::Bytes(n) => say_write(value, &mut operand[0..n], out),
+    let mut buffer = room();
+    match read_operand(word_at(line, 2), last, &mut buffer) {
+        Operand::Bytes(n) => answers::say_write(value, &mut buffer[0..n], out),
         Operand::Unread(fault) => Said::Error(fault),
-    }
-}
-
-fn say_write(value: u64, buffer: &mut [u8], out: &mut [u8]) -> Said
-    ensures { λ r. ⌜ Says (writeOf value (length (now (buffer .entry)))) (writeParts (writeOf value (length (now (buffer .entry)))) (afterWrite value (now (buffer .entry)))) r (now (out .entry)) (now (out .exit)) ⌝ }
-{
-    match varint::write(value, buffer) {
-        Width::Bytes(width) => Said::Answer(put_number_and_bytes(
-            out,
-            b"width ",
-            width as u64,
-            buffer,
-        )),
-        Width::Refused(number) => Said::Refused(
-            put_number_and_bytes(out, b"refused ", number, buffer),
-            number,
-        ),
     }
 }
 
 // read BYTES
-fn read(line: &[u8], operand: &mut [u8], out: &mut [u8]) -> Said
-    ensures { λ r. ⌜ saidCount r ≤ length (now (out .entry)) ⌝ }
+fn read(line: &[u8], last: &[u8], out: &mut [u8]) -> Said
+    ensures { λ r. ⌜ Fits 0 0 (length (now (out .entry))) r ⌝ }
 {
     if !has_operands(line, 1) {
         return Said::Error(Fault::Count);
     }
-    match read_operand(word_at(line, 1), operand) {
-        Operand::Bytes(n) => say_read(&operand[0..n], out),
+    let mut input = room();
+    match read_operand(word_at(line, 1), last, &mut input) {
+        Operand::Bytes(n) => answers::say_read(&input[0..n], out),
         Operand::Unread(fault) => Said::Error(fault),
     }
 }
 
-fn say_read(input: &[u8], out: &mut [u8]) -> Said
-    ensures { λ r. ⌜ Says (readOf (now (input .entry))) (readParts (readOf (now (input .entry)))) r (now (out .entry)) (now (out .exit)) ⌝ }
+// join FRAMES OUT MARKS, an operand after the other
+fn join(line: &[u8], last: &mut [u8], kept: usize, out: &mut [u8]) -> Said
+    requires { ⌜ kept ≤ length (now last) ⌝ }
+    ensures { λ r. ⌜ Fits kept (length (now (last .entry))) (length (now (out .entry))) r ⌝ }
 {
-    match varint::read(input) {
-        Got::Value(x) => Said::Answer(put_two_numbers(
-            out,
-            b"value ",
-            x.value,
-            b" width ",
-            x.width as u64,
-        )),
-        Got::Refused(number) => Said::Refused(put_number(out, b"refused ", number), number),
+    if !has_operands(line, 3) {
+        return Said::Error(Fault::Count);
+    }
+    let mut frames = room();
+    match read_operand(word_at(line, 1), &last[0..kept], &mut frames) {
+        Operand::Bytes(n) => join_frames(line, &frames[0..n], last, kept, out),
+        Operand::Unread(fault) => Said::Error(fault),
+    }
+}
+
+fn join_frames(line: &[u8], frames: &[u8], last: &mut [u8], kept: usize, out: &mut [u8]) -> Said
+    requires { ⌜ kept ≤ length (now last) ⌝ }
+    ensures { λ r. ⌜ Fits kept (length (now (last .entry))) (length (now (out .entry))) r ⌝ }
+{
+    let mut buffer = room();
+    match read_operand(word_at(line, 2), &last[0..kept], &mut buffer) {
+        Operand::Bytes(n) => join_onto(line, frames, &mut buffer[0..n], last, kept, out),
+        Operand::Unread(fault) => Said::Error(fault),
+    }
+}
+
+fn join_onto(
+    line: &[u8],
+    frames: &[u8],
+    buffer: &mut [u8],
+    last: &mut [u8],
+    kept: usize,
+    out: &mut [u8],
+) -> Said
+    requires { ⌜ kept ≤ length (now last) ⌝ }
+    ensures { λ r. ⌜ Fits kept (length (now (last .entry))) (length (now (out .entry))) r ⌝ }
+{
+    let mut marks = room();
+    match read_operand(word_at(line, 3), &last[0..kept], &mut marks) {
+        Operand::Bytes(n) => answers::say_join(frames, buffer, &mut marks[0..n], last, out),
+        Operand::Unread(fault) => Said::Error(fault),
+    }
+}
+
+// frames C HELLO OUT
+fn frames(line: &[u8], last: &mut [u8], kept: usize, out: &mut [u8]) -> Said
+    requires { ⌜ kept ≤ length (now last) ⌝ }
+    ensures { λ r. ⌜ Fits kept (length (now (last .entry))) (length (now (out .entry))) r ⌝ }
+{
+    if !has_operands(line, 3) {
+        return Said::Error(Fault::Count);
+    }
+    let Number::Value(c) = read_number(word_at(line, 1)) else {
+        return Said::Error(Fault::NoNumber);
+    };
+    let mut hello = room();
+    match read_operand(word_at(line, 2), &last[0..kept], &mut hello) {
+        Operand::Bytes(n) => frames_of(line, c, &hello[0..n], last, kept, out),
+        Operand::Unread(fault) => Said::Error(fault),
+    }
+}
+
+fn frames_of(
+    line: &[u8],
+    c: u64,
+    hello: &[u8],
+    last: &mut [u8],
+    kept: usize,
+    out: &mut [u8],
+) -> Said
+    requires { ⌜ kept ≤ length (now last) ⌝ }
+    ensures { λ r. ⌜ Fits kept (length (now (last .entry))) (length (now (out .entry))) r ⌝ }
+{
+    let mut buffer = room();
+    match read_operand(word_at(line, 3), &last[0..kept], &mut buffer) {
+        Operand::Bytes(n) => answers::say_frames(c, hello, &mut buffer[0..n], last, out),
+        Operand::Unread(fault) => Said::Error(fault),
+    }
+}
+
+// split PLACE BLOB
+fn split(line: &[u8], last: &mut [u8], kept: usize, out: &mut [u8]) -> Said
+    requires { ⌜ kept ≤ length (now last) ⌝ }
+    ensures { λ r. ⌜ Fits kept (length (now (last .entry))) (length (now (out .entry))) r ⌝ }
+{
+    if !has_operands(line, 2) {
+        return Said::Error(Fault::Count);
+    }
+    let Number::Value(place) = read_number(word_at(line, 1)) else {
+        return Said::Error(Fault::NoNumber);
+    };
+    let mut blob = room();
+    match read_operand(word_at(line, 2), &last[0..kept], &mut blob) {
+        Operand::Bytes(n) => answers::say_split(place, &blob[0..n], last, out),
+        Operand::Unread(fault) => Said::Error(fault),
     }
 }

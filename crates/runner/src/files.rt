@@ -2,8 +2,8 @@
 ghost use Prim.Native.Nat.{_≤_};
 ghost use lib.ListN.{length};
 ghost use Rattle.runner.specs.Bounds.{operandCount};
-use crate::notes::Fault;
 use crate::operands::Operand;
+use answers::Fault;
 
 pub fn read_file(path: &[u8], out: &mut [u8]) -> Operand
     ensures { λ r. ⌜ operandCount r ≤ length (now (out .entry)) ⌝ }

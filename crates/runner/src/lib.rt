@@ -1,39 +1,45 @@
 // Runs bench scripts: takes lines from a descriptor and answers each on standard output. The work on text is in the crates `script`
-// and `lines`, that of each call in its own crate; here are the calls of the system, and a function for each command.
+// and `lines`, the answer to each command in `answers`; here are the calls of the system, and the operands of each command.
 mod commands;
 mod files;
 mod notes;
 mod operands;
 
-use commands::Said;
+use answers::Fault;
+use answers::Said;
 use libc::STDOUT_FILENO;
 use lines::input;
 use lines::input::Input;
-use notes::Fault;
 use script::writing::put_number;
 use script::writing::put_text;
 ghost use mathlib.Core.Path.{_≡_};
 ghost use Prim.Native.Nat.{_≤_};
 ghost use lib.ListN.{length};
-ghost use Rattle.lines.specs.Input.{Held};
+ghost use Rattle.runner.specs.Bounds.{Turned};
 
-// The script language allows a line of 524,288 bytes and an operand of 131,072. The longest answer is one operand in hex with
-// words around it.
+// The script language allows a line of 524,288 bytes and an operand of 131,072. What is handed back is no longer than an operand, and the
+// longest answer has two operands in hex, with words around them.
 const CHUNK: usize = 65536;
 
 const LINE: usize = 524288;
 
-const OPERAND: usize = 131072;
+const LAST: usize = 131072;
 
-const ANSWER: usize = 262400;
+const ANSWER: usize = 524544;
 
 // Answers every line of the script that the descriptor gives; with notes, which begin with `#`, where they are asked for.
 pub fn run(fd: i32, notes: bool) {
     let mut chunk = [0u8; CHUNK];
     let mut line = [0u8; LINE];
-    let mut operand = [0u8; OPERAND];
+    let mut last = [0u8; LAST];
     let mut out = [0u8; ANSWER];
-    answer_all(fd, notes, &mut chunk, &mut line, &mut operand, &mut out);
+    answer_all(fd, notes, &mut chunk, &mut line, &mut last, &mut out);
+}
+
+// Where the run stands: in its input, and how many bytes `last` holds.
+pub struct Standing {
+    pub input: Input,
+    pub kept: usize,
 }
 
 // A proved loop has to end, and nothing says that a script does. So the loop counts its turns down, from a number that no run
@@ -43,13 +49,17 @@ fn answer_all(
     notes: bool,
     chunk: &mut [u8],
     line: &mut [u8],
-    operand: &mut [u8],
+    last: &mut [u8],
     out: &mut [u8],
 ) {
     let mut turns = u64::MAX;
-    let mut s = input::start();
+    let mut t = Standing {
+        input: input::start(),
+        kept: 0,
+    };
     while 0 < turns {
-        s = turn(fd, notes, chunk, line, operand, out, s);
+        t = turn(fd, notes, chunk, line, last, out, t);
+        let s = t.input;
         if s.over {
             break;
         }
@@ -87,38 +97,67 @@ fn turn(
     notes: bool,
     chunk: &mut [u8],
     line: &mut [u8],
-    operand: &mut [u8],
+    last: &mut [u8],
     out: &mut [u8],
-    s: Input,
-) -> Input
-    requires { ⌜ Held (length (now chunk)) (length (now line)) s ⌝ }
-    ensures { λ r. ⌜ Held (length (now (chunk .entry))) (length (now (line .entry))) r ⌝ }
+    t: Standing,
+) -> Standing
+    requires { ⌜ Turned (length (now chunk)) (length (now line)) (length (now last)) t ⌝ }
+    ensures { λ r. ⌜ Turned (length (now (chunk .entry))) (length (now (line .entry))) (length (now (last .entry))) r ⌝ }
 {
-    let filled = fill(fd, chunk, s);
+    let filled = fill(fd, chunk, t.input);
     let taken = input::take(chunk, line, filled);
     if taken.whole {
         let n = taken.length;
-        answer(&line[0..n], taken.number, taken.long, notes, operand, out);
-        return input::next_line(taken);
+        let kept = answer(
+            &line[0..n],
+            taken.number,
+            taken.long,
+            notes,
+            last,
+            t.kept,
+            out,
+        );
+        return Standing {
+            input: input::next_line(taken),
+            kept,
+        };
     }
-    taken
+    Standing {
+        input: taken,
+        kept: t.kept,
+    }
 }
 
-// "A line that is empty or begins with `#` has no answer."
-fn answer(line: &[u8], number: u64, long: bool, notes: bool, operand: &mut [u8], out: &mut [u8]) {
+// Answers a line, and gives how many bytes `last` now holds. "A line that is empty or begins with `#` has no answer."
+fn answer(
+    line: &[u8],
+    number: u64,
+    long: bool,
+    notes: bool,
+    last: &mut [u8],
+    kept: usize,
+    out: &mut [u8],
+) -> usize
+    requires { ⌜ kept ≤ length (now last) ⌝ }
+    ensures { λ r. ⌜ r ≤ length (now (last .entry)) ⌝ }
+{
     if line.len() == 0 {
-        return;
+        return kept;
     }
     if line[0] == b'#' {
-        return;
+        return kept;
     }
     if long {
         error(number, Fault::LongLine, notes, out);
-        return;
+        return kept;
     }
-    let said = commands::command(line, operand, out);
+    let said = commands::command(line, last, kept, out);
     match said {
         Said::Answer(n) => say(out, n),
+        Said::Handed(n, k) => {
+            say(out, n);
+            return k;
+        }
         Said::Refused(n, refusal) => {
             say(out, n);
             if notes {
@@ -127,6 +166,7 @@ fn answer(line: &[u8], number: u64, long: bool, notes: bool, operand: &mut [u8],
         }
         Said::Error(fault) => error(number, fault, notes, out),
     }
+    kept
 }
 
 // Ends the n bytes of an answer with a line feed and writes them.

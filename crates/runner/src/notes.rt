@@ -1,16 +1,6 @@
 // Notes for people, after an answer: lines that begin with `#`.
+use answers::Fault;
 use libc::STDOUT_FILENO;
-
-// Why a line is an error.
-pub enum Fault {
-    NoCommand,
-    Count,
-    NoNumber,
-    NoPiece,
-    NoFile,
-    LongOperand,
-    LongLine,
-}
 
 fn note(text: &[u8]) {
     io::write_all(STDOUT_FILENO, text);
@@ -38,6 +28,16 @@ pub fn explain_refusal(number: u64) {
         1 => note(b"# 1: the value is 2^62 or more\n"),
         2 => note(b"# 2: the output is shorter than the varint\n"),
         3 => note(b"# 3: bytes of the varint are missing\n"),
+        10 => note(b"# 10: output and marks need 16,384 bytes each\n"),
+        11 => note(b"# 11: a frame of an unknown type\n"),
+        12 => note(b"# 12: bytes of a frame are missing\n"),
+        13 => note(b"# 13: a frame ends past 16,384\n"),
+        14 => note(b"# 14: a frame has another byte for a place that is filled\n"),
+        15 => note(b"# 15: a place below the end is not filled\n"),
+        24 => note(b"# 24: c is not from 1 to 16,384\n"),
+        25 => note(b"# 25: the hello has more than 16,384 bytes\n"),
+        26 => note(b"# 26: the output is shorter than the frames\n"),
+        27 => note(b"# 27: the place is past the blob's end, or bytes of the record are missing\n"),
         _ => {}
     }
 }

@@ -3,7 +3,7 @@ ghost use Prim.Native.Nat.{_≤_};
 ghost use lib.ListN.{length};
 ghost use Rattle.runner.specs.Bounds.{operandCount};
 use crate::files::read_file;
-use crate::notes::Fault;
+use answers::Fault;
 use script::reading::Piece;
 use script::reading::piece_end;
 use script::reading::read_piece;
@@ -14,15 +14,15 @@ pub enum Operand {
     Unread(Fault),
 }
 
-// Reads a byte operand: pieces joined by `+`. No command hands bytes back yet, so `_` stands for none.
-pub fn read_operand(text: &[u8], out: &mut [u8]) -> Operand
+// Reads a byte operand: pieces joined by `+`, of which `_` stands for `last`.
+pub fn read_operand(text: &[u8], last: &[u8], out: &mut [u8]) -> Operand
     ensures { λ r. ⌜ operandCount r ≤ length (now (out .entry)) ⌝ }
 {
     let mut at: usize = 0;
     let mut n: usize = 0;
     loop {
         let end = piece_end(text, at);
-        match read_one(&text[at..end], &mut out[n..]) {
+        match read_one(&text[at..end], last, &mut out[n..]) {
             Operand::Bytes(k) => {
                 n += k;
             }
@@ -40,13 +40,13 @@ pub fn read_operand(text: &[u8], out: &mut [u8]) -> Operand
     }
 }
 
-fn read_one(piece: &[u8], out: &mut [u8]) -> Operand
+fn read_one(piece: &[u8], last: &[u8], out: &mut [u8]) -> Operand
     ensures { λ r. ⌜ operandCount r ≤ length (now (out .entry)) ⌝ }
 {
     if piece.len() == 0 {
         return Operand::Unread(Fault::NoPiece);
     }
-    match read_piece(piece, b"", out) {
+    match read_piece(piece, last, out) {
         Piece::Bytes(n) => Operand::Bytes(n),
         Piece::File => read_file(&piece[1..], out),
         Piece::Malformed => Operand::Unread(Fault::NoPiece),

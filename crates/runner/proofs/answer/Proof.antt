@@ -32,7 +32,7 @@ say-requires : tie.Need-say-requires
 say-requires c κs =
     let said = c .before .before .said in
     let command = c .before .before .before .before .before .before .before .before .command in
-    omega (arith, rw (said .given .1) at (command .ensures))
+    omega (arith, rw (said .given .1) at (command .ensures .text))
 
 enum-known-said-2 : tie.Need-enum-known-said-2
 enum-known-said-2 c = search needs
@@ -41,16 +41,7 @@ say-requires-2 : tie.Need-say-requires-2
 say-requires-2 c κs =
     let said2 = c .before .before .said2 in
     let command = c .before .before .before .before .before .before .before .before .command in
-    omega (arith, rw (said2 .given .1) at (command .ensures))
-
-explain-refusal-requires : tie.Need-explain-refusal-requires
-explain-refusal-requires c κs = search needs
-
-enum-known-said-3 : tie.Need-enum-known-said-3
-enum-known-said-3 c = search needs
-
-error-requires-2 : tie.Need-error-requires-2
-error-requires-2 c κs = search needs
+    omega (arith, rw (said2 .given .1) at (command .ensures .text))
 
 same-length-2 : tie.Need-same-length-2
 same-length-2 c = search needs
@@ -59,7 +50,28 @@ same-length-3 : tie.Need-same-length-3
 same-length-3 c = search needs
 
 returns-4 : tie.Need-returns-4
-returns-4 c = search needs
+returns-4 c =
+    let said2 = c .before .before .before .before .before .said2 in
+    let command = c .before .before .before .before .before .before .before .before .before .before .before .command in
+    omega (arith, rw (said2 .given .1) at (command .ensures .held))
+
+enum-known-said-3 : tie.Need-enum-known-said-3
+enum-known-said-3 c = search needs
+
+say-requires-3 : tie.Need-say-requires-3
+say-requires-3 c κs =
+    let said3 = c .before .before .said3 in
+    let command = c .before .before .before .before .before .before .before .before .command in
+    omega (arith, rw (said3 .given .1) at (command .ensures .text))
+
+explain-refusal-requires : tie.Need-explain-refusal-requires
+explain-refusal-requires c κs = search needs
+
+enum-known-said-4 : tie.Need-enum-known-said-4
+enum-known-said-4 c = search needs
+
+error-requires-2 : tie.Need-error-requires-2
+error-requires-2 c κs = search needs
 
 same-length-4 : tie.Need-same-length-4
 same-length-4 c = search needs
@@ -88,6 +100,15 @@ same-length-9 c = search needs
 returns-7 : tie.Need-returns-7
 returns-7 c = search needs
 
+same-length-10 : tie.Need-same-length-10
+same-length-10 c = search needs
+
+same-length-11 : tie.Need-same-length-11
+same-length-11 c = search needs
+
+returns-8 : tie.Need-returns-8
+returns-8 c = search needs
+
 pub answer-spec : {M : Type 1} → statement M
 answer-spec =
     tie.close
@@ -103,12 +124,14 @@ answer-spec =
     say-requires
     enum-known-said-2
     say-requires-2
-    explain-refusal-requires
-    enum-known-said-3
-    error-requires-2
     same-length-2
     same-length-3
     returns-4
+    enum-known-said-3
+    say-requires-3
+    explain-refusal-requires
+    enum-known-said-4
+    error-requires-2
     same-length-4
     same-length-5
     returns-5
@@ -117,4 +140,7 @@ answer-spec =
     returns-6
     same-length-8
     same-length-9
-    returns-7)
+    returns-7
+    same-length-10
+    same-length-11
+    returns-8)

@@ -1,30 +1,31 @@
 -- `answer_all` is safe and ends: the turns left fall, and the buffers keep their lengths. Assumes nothing.
 use mathlib.Core.Path.{_≡_, refl, _∙_}
+use native.Mathlib.Omega.{arith}
 use lib.ListN.{length}
-use Rattle.lines.specs.Input.{Held}
+use Rattle.runner.specs.Bounds.{Turned}
 use Rattle.lines.proofs.InputLaws.{start-held}
 use borrow.Author.Needs.{needs}
 use Rattle.runner.proofs.answer_all.Statement.{statement}
 use Rattle.runner.proofs.answer_all.Tie as tie
 
 abbrev Inv-loop : tie.InvT-loop
-Inv-loop fd notes chunk₀ line₀ operand₀ out₀ turns₀ s₀ chunk line operand out turns s =
-    (length chunk ≡ length chunk₀) × (length line ≡ length line₀) × (length operand ≡ length operand₀) × (length out ≡ length out₀) × Held (length chunk₀) (length line₀) s
+Inv-loop fd notes chunk₀ line₀ last₀ out₀ turns₀ t₀ chunk line last out turns t =
+    (length chunk ≡ length chunk₀) × (length line ≡ length line₀) × (length last ≡ length last₀) × (length out ≡ length out₀) × Turned (length chunk₀) (length line₀) (length last₀) t
 
 abbrev μ-loop : tie.MeasureT-loop
-μ-loop fd notes chunk₀ line₀ operand₀ out₀ turns₀ s₀ chunk line operand out turns s =
+μ-loop fd notes chunk₀ line₀ last₀ out₀ turns₀ t₀ chunk line last out turns t =
     turns
 
 start-requires : tie.Need-start-requires Inv-loop μ-loop
 start-requires c κs = search needs
 
 loop-holds : tie.Need-loop-holds Inv-loop μ-loop
-loop-holds c = (refl, refl, refl, refl, rw (c .start .ensures) (start-held _ _))
+loop-holds c = (refl, refl, refl, refl, record { input = rw ((c .start .ensures)) (start-held _ _); held = omega arith })
 
 turn-requires : tie.Need-turn-requires Inv-loop μ-loop
 turn-requires c κs =
     let loop = c .before .before .before .before .before .loop in
-    rw (loop .inv .0, loop .inv .1) (loop .inv .4)
+    rw ((loop .inv .0), (loop .inv .1), (loop .inv .2)) (loop .inv .4)
 
 sub-turns : tie.Need-sub-turns Inv-loop μ-loop
 sub-turns c = search needs
@@ -34,9 +35,9 @@ loop-less c = search needs
 
 loop-again : tie.Need-loop-again Inv-loop μ-loop
 loop-again c =
-    let turn = c .before .before .before .before .before .before .before .before .before .turn in
-    let loop = c .before .before .before .before .before .before .before .before .before .before .before .before .before .before .before .loop in
-    ((turn .kept .1 .1 .0) ∙ (loop .inv .0), (turn .kept .1 .1 .1 .0) ∙ (loop .inv .1), (turn .kept .1 .1 .1 .1 .0) ∙ (loop .inv .2), (turn .kept .1 .1 .1 .1 .1 .0) ∙ (loop .inv .3), rw (loop .inv .0, loop .inv .1) at (turn .ensures))
+    let turn = c .before .before .before .before .before .before .before .before .before .before .turn in
+    let loop = c .before .before .before .before .before .before .before .before .before .before .before .before .before .before .before .before .loop in
+    ((turn .kept .1 .1 .0) ∙ (loop .inv .0), (turn .kept .1 .1 .1 .0) ∙ (loop .inv .1), (turn .kept .1 .1 .1 .1 .0) ∙ (loop .inv .2), (turn .kept .1 .1 .1 .1 .1 .0) ∙ (loop .inv .3), rw ((loop .inv .0), (loop .inv .1), (loop .inv .2)) at (turn .ensures))
 
 same-length : tie.Need-same-length Inv-loop μ-loop
 same-length c = search needs

@@ -41,7 +41,8 @@ returns : tie.Need-returns
 returns c =
     let take = c .before .before .before .before .before .before .before .before .before .before .before .before .before .take in
     let fill = c .before .before .before .before .before .before .before .before .before .before .before .before .before .before .before .before .before .before .fill in
-    rw (c .next-line .ensures) (next-held _ _ (take .result) (rw (fill .kept .1 .0) at (take .ensures .held)))
+    let answer = c .before .before .before .before .before .answer in
+    record { input = rw (c .next-line .ensures) (next-held _ _ (take .result) (rw (fill .kept .1 .0) at (take .ensures .held))); held = (answer .ensures) }
 
 same-length-5 : tie.Need-same-length-5
 same-length-5 c = search needs

@@ -10,8 +10,14 @@ has-operands-requires c κs = search needs
 returns : tie.Need-returns
 returns c = search needs
 
+room-requires : tie.Need-room-requires
+room-requires c κs = search needs
+
 word-at-requires : tie.Need-word-at-requires
 word-at-requires c κs = search needs
+
+slice-aggregate-read-operand : tie.Need-slice-aggregate-read-operand
+slice-aggregate-read-operand c = search needs
 
 read-operand-requires : tie.Need-read-operand-requires
 read-operand-requires c κs = search needs
@@ -28,7 +34,7 @@ part-say-read-start c = search needs
 part-say-read-end : tie.Need-part-say-read-end
 part-say-read-end c =
     let n = c .before .before .n in
-    let read-operand = c .before .before .before .before .before .before .read-operand in
+    let read-operand = c .before .before .before .before .before .read-operand in
     omega (arith, rw (n .given .1) at (read-operand .ensures))
 
 say-read-requires : tie.Need-say-read-requires
@@ -40,14 +46,10 @@ enum-known-fault c = search needs
 same-length : tie.Need-same-length
 same-length c = search needs
 
-same-length-2 : tie.Need-same-length-2
-same-length-2 c = search needs
-
 returns-2 : tie.Need-returns-2
-returns-2 c = search needs
-
-same-length-3 : tie.Need-same-length-3
-same-length-3 c = search needs
+returns-2 c =
+    let say-read = c .before .before .say-read in
+    record { text = (say-read .ensures .within); held = omega (arith, (say-read .ensures .plain) 0) }
 
 returns-3 : tie.Need-returns-3
 returns-3 c = search needs
@@ -58,7 +60,9 @@ read-spec =
     (tie.spec
     has-operands-requires
     returns
+    room-requires
     word-at-requires
+    slice-aggregate-read-operand
     read-operand-requires
     enum-known-n
     sub-say-read
@@ -67,7 +71,5 @@ read-spec =
     say-read-requires
     enum-known-fault
     same-length
-    same-length-2
     returns-2
-    same-length-3
     returns-3)

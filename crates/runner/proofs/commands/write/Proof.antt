@@ -25,8 +25,14 @@ enum-told c = search needs
 returns-2 : tie.Need-returns-2
 returns-2 c = search needs
 
+room-requires : tie.Need-room-requires
+room-requires c κs = search needs
+
 word-at-requires-2 : tie.Need-word-at-requires-2
 word-at-requires-2 c κs = search needs
+
+slice-aggregate-read-operand : tie.Need-slice-aggregate-read-operand
+slice-aggregate-read-operand c = search needs
 
 read-operand-requires : tie.Need-read-operand-requires
 read-operand-requires c κs = search needs
@@ -37,11 +43,13 @@ enum-known-n c = search needs
 sub-say-write : tie.Need-sub-say-write
 sub-say-write c = search needs
 
-part-say-write-start : tie.Need-part-say-write-start
-part-say-write-start c = search needs
+part-buffer-start : tie.Need-part-buffer-start
+part-buffer-start c = search needs
 
-part-say-write-end : tie.Need-part-say-write-end
-part-say-write-end c = omega (arith, rw (c .before .n .given .1) at (c .before .before .before .before .before .read-operand .ensures))
+part-buffer-end : tie.Need-part-buffer-end
+part-buffer-end c =
+    let read-operand = c .before .before .before .before .read-operand in
+    omega (arith, rw (c .before .n .given .1) at (read-operand .ensures))
 
 say-write-requires : tie.Need-say-write-requires
 say-write-requires c κs = search needs
@@ -52,14 +60,10 @@ enum-known-fault c = search needs
 same-length : tie.Need-same-length
 same-length c = search needs
 
-same-length-2 : tie.Need-same-length-2
-same-length-2 c = search needs
-
 returns-3 : tie.Need-returns-3
-returns-3 c = search needs
-
-same-length-3 : tie.Need-same-length-3
-same-length-3 c = search needs
+returns-3 c =
+    let say-write = c .before .before .before .say-write in
+    record { text = (say-write .ensures .within); held = omega (arith, (say-write .ensures .plain) 0) }
 
 returns-4 : tie.Need-returns-4
 returns-4 c = search needs
@@ -75,16 +79,16 @@ write-spec =
     enum-known-value
     enum-told
     returns-2
+    room-requires
     word-at-requires-2
+    slice-aggregate-read-operand
     read-operand-requires
     enum-known-n
     sub-say-write
-    part-say-write-start
-    part-say-write-end
+    part-buffer-start
+    part-buffer-end
     say-write-requires
     enum-known-fault
     same-length
-    same-length-2
     returns-3
-    same-length-3
     returns-4)

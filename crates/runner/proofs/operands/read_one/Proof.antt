@@ -6,9 +6,6 @@ use Rattle.runner.proofs.operands.read_one.Tie as tie
 returns : tie.Need-returns
 returns c = search needs
 
-slice-aggregate-read-piece : tie.Need-slice-aggregate-read-piece
-slice-aggregate-read-piece c = search needs
-
 read-piece-requires : tie.Need-read-piece-requires
 read-piece-requires c κs = search needs
 
@@ -65,7 +62,6 @@ read-one-spec =
     tie.close
     (tie.spec
     returns
-    slice-aggregate-read-piece
     read-piece-requires
     enum-known-n
     enum-told

@@ -9,11 +9,11 @@ use Rattle.runner.proofs.operands.read_operand.Statement.{statement}
 use Rattle.runner.proofs.operands.read_operand.Tie as tie
 
 abbrev Inv-loop : tie.InvT-loop
-Inv-loop text out₀ at₀ n₀ out at n =
+Inv-loop text last out₀ at₀ n₀ out at n =
     (at ≤ length text) × (n ≤ length out) × (length out ≡ length out₀)
 
 abbrev μ-loop : tie.MeasureT-loop
-μ-loop text out₀ at₀ n₀ out at n =
+μ-loop text last out₀ at₀ n₀ out at n =
     length text - at
 
 within : (c : tie.After-known-told Inv-loop μ-loop) →

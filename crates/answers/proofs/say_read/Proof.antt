@@ -1,15 +1,16 @@
--- `say_read` says what `read` answers: in each case the text is that of its parts. Assumes nothing.
+-- `say_read` says what `read` answers. Assumes nothing.
 use mathlib.Core.Path.{_≡_}
 use mathlib.Core.List.{[], _∷_}
 use denote.Ref.{now}
 use Rattle.wire.specs.Answer.{result, refused}
 use Rattle.varint.specs.Varint.{readOf}
+use Rattle.script.specs.Scan.{space}
 use Rattle.script.specs.Decimal.{decimalText}
-use Rattle.runner.specs.Answers.{valueWord, andWidth, refusedWord}
-use Rattle.runner.proofs.AnswerLaws.{says-result, says-refused}
+use Rattle.answers.specs.Answers.{widthWord, valueWord, refusedWord}
+use Rattle.answers.proofs.AnswerLaws.{says-result, says-refused}
 use borrow.Author.Needs.{needs}
-use Rattle.runner.proofs.commands.say_read.Statement.{statement}
-use Rattle.runner.proofs.commands.say_read.Tie as tie
+use Rattle.answers.proofs.say_read.Statement.{statement}
+use Rattle.answers.proofs.say_read.Tie as tie
 
 read-requires : tie.Need-read-requires
 read-requires c κs = search needs
@@ -40,25 +41,25 @@ same-length c = search needs
 
 returns : tie.Need-returns
 returns c =
-    let the-x = c .before .before .before .before .before .before .before .x in
-    let args = c .before .before .before .before .before .before .before .before .before .before .before .before .args in
     let read = c .before .before .before .before .before .before .before .before .before .read in
-    let out = c .before .before .put-two-numbers in
-    let x = the-x .given .0 .0 in
-    let e : result x ≡ readOf (now (args .input)) = rw (the-x .given .1) at (read .ensures .is) in
-    rw (← e) (says-result (valueWord ∷ decimalText (x .value) ∷ andWidth ∷ decimalText (x .width) ∷ []) (out .result) (now (args .out)) (out .last .0) (out .ensures) x)
+    let x = c .before .before .before .before .before .before .before .x in
+    let args = c .before .before .before .before .before .before .before .before .before .before .before .before .args in
+    let put = c .before .before .put-two-numbers in
+    let v = x .given .0 .0 in
+    let e : result v ≡ readOf (now (args .input)) = rw (x .given .1) at (read .ensures .is) in
+    rw (← e) (says-result (valueWord ∷ decimalText (v .value) ∷ (space ∷ widthWord) ∷ decimalText (v .width) ∷ []) (put .result) (now (args .out)) (put .last .0) (put .ensures))
 
 same-length-2 : tie.Need-same-length-2
 same-length-2 c = search needs
 
 returns-2 : tie.Need-returns-2
 returns-2 c =
+    let read = c .before .before .before .before .before .before .before .before .read in
     let number = c .before .before .before .before .before .before .number in
     let args = c .before .before .before .before .before .before .before .before .before .before .before .args in
-    let read = c .before .before .before .before .before .before .before .before .read in
-    let out = c .before .before .put-number in
+    let put = c .before .before .put-number in
     let e : refused (number .given .0 .0) ≡ readOf (now (args .input)) = rw (number .given .1) at (read .ensures .is) in
-    rw (← e) (says-refused (refusedWord ∷ decimalText (number .given .0 .0) ∷ []) (out .result) (now (args .out)) (out .last .0) (out .ensures) (number .given .0 .0))
+    rw (← e) (says-refused (refusedWord ∷ decimalText (number .given .0 .0) ∷ []) (put .result) (now (args .out)) (put .last .0) (put .ensures) (number .given .0 .0))
 
 pub say-read-spec : {M : Type 1} → statement M
 say-read-spec =

@@ -8,11 +8,11 @@ use Rattle.varint.specs.Varint.{writeOf}
 use Rattle.script.specs.Scan.{space}
 use Rattle.script.specs.Decimal.{decimalText}
 use Rattle.script.specs.Shown.{shownText}
-use Rattle.runner.specs.Answers.{widthWord, refusedWord}
-use Rattle.runner.proofs.AnswerLaws.{says-result, says-refused}
+use Rattle.answers.specs.Answers.{widthWord, refusedWord}
+use Rattle.answers.proofs.AnswerLaws.{says-result, says-refused}
 use borrow.Author.Needs.{needs}
-use Rattle.runner.proofs.commands.say_write.Statement.{statement}
-use Rattle.runner.proofs.commands.say_write.Tie as tie
+use Rattle.answers.proofs.say_write.Statement.{statement}
+use Rattle.answers.proofs.say_write.Tie as tie
 
 write-requires : tie.Need-write-requires
 write-requires c κs = search needs
@@ -46,9 +46,9 @@ returns c =
     let width = c .before .before .before .before .before .before .before .width in
     let args = c .before .before .before .before .before .before .before .before .before .before .before .before .before .before .before .args in
     let write = c .before .before .before .before .before .before .before .before .before .before .before .write in
-    let out = c .before .before .put-number-and-bytes in
+    let put = c .before .before .put-number-and-bytes in
     let e : result (width .given .0 .0) ≡ writeOf (args .value) (length (now (args .buffer))) = rw (width .given .1) at (write .ensures .is) in
-    rw (← e, ← (write .ensures .output)) (says-result (widthWord ∷ decimalText (width .given .0 .0) ∷ (space ∷ []) ∷ shownText (write .last .1 .0) ∷ []) (out .result) (now (args .out)) (out .last .0) (out .ensures) (width .given .0 .0))
+    rw (← e, ← (write .ensures .output)) (says-result (widthWord ∷ decimalText (width .given .0 .0) ∷ (space ∷ []) ∷ shownText (write .last .1 .0) ∷ []) (put .result) (now (args .out)) (put .last .0) (put .ensures))
 
 same-length-3 : tie.Need-same-length-3
 same-length-3 c = search needs
@@ -61,9 +61,9 @@ returns-2 c =
     let number = c .before .before .before .before .before .before .before .number in
     let args = c .before .before .before .before .before .before .before .before .before .before .before .before .before .before .before .args in
     let write = c .before .before .before .before .before .before .before .before .before .before .before .write in
-    let out = c .before .before .put-number-and-bytes2 in
+    let put = c .before .before .put-number-and-bytes2 in
     let e : refused (number .given .0 .0) ≡ writeOf (args .value) (length (now (args .buffer))) = rw (number .given .1) at (write .ensures .is) in
-    rw (← e, ← (write .ensures .output)) (says-refused (refusedWord ∷ decimalText (number .given .0 .0) ∷ (space ∷ []) ∷ shownText (write .last .1 .0) ∷ []) (out .result) (now (args .out)) (out .last .0) (out .ensures) (number .given .0 .0))
+    rw (← e, ← (write .ensures .output)) (says-refused (refusedWord ∷ decimalText (number .given .0 .0) ∷ (space ∷ []) ∷ shownText (write .last .1 .0) ∷ []) (put .result) (now (args .out)) (put .last .0) (put .ensures) (number .given .0 .0))
 
 pub say-write-spec : {M : Type 1} → statement M
 say-write-spec =

@@ -5,11 +5,11 @@ use denote.Ref.{now}
 use Rattle.wire.specs.Answer.{result, refused}
 use Rattle.varint.specs.Varint.{sizeOf}
 use Rattle.script.specs.Decimal.{decimalText}
-use Rattle.runner.specs.Answers.{widthWord, refusedWord}
-use Rattle.runner.proofs.AnswerLaws.{says-result, says-refused}
+use Rattle.answers.specs.Answers.{widthWord, refusedWord}
+use Rattle.answers.proofs.AnswerLaws.{says-result, says-refused}
 use borrow.Author.Needs.{needs}
-use Rattle.runner.proofs.commands.say_size.Statement.{statement}
-use Rattle.runner.proofs.commands.say_size.Tie as tie
+use Rattle.answers.proofs.say_size.Statement.{statement}
+use Rattle.answers.proofs.say_size.Tie as tie
 
 size-requires : tie.Need-size-requires
 size-requires c κs = search needs
@@ -37,24 +37,24 @@ same-length c = search needs
 
 returns : tie.Need-returns
 returns c =
+    let size = c .before .before .before .before .before .before .before .before .size in
     let width = c .before .before .before .before .before .before .width in
     let args = c .before .before .before .before .before .before .before .before .before .before .args in
-    let size = c .before .before .before .before .before .before .before .before .size in
-    let put-number = c .before .before .put-number in
+    let put = c .before .before .put-number in
     let e : result (width .given .0 .0) ≡ sizeOf (args .value) = rw (width .given .1) at (size .ensures .is) in
-    rw (← e) (says-result (widthWord ∷ decimalText (width .given .0 .0) ∷ []) (put-number .result) (now (args .out)) (put-number .last .0) (put-number .ensures) (width .given .0 .0))
+    rw (← e) (says-result (widthWord ∷ decimalText (width .given .0 .0) ∷ []) (put .result) (now (args .out)) (put .last .0) (put .ensures))
 
 same-length-2 : tie.Need-same-length-2
 same-length-2 c = search needs
 
 returns-2 : tie.Need-returns-2
 returns-2 c =
+    let size = c .before .before .before .before .before .before .before .before .size in
     let number = c .before .before .before .before .before .before .number in
     let args = c .before .before .before .before .before .before .before .before .before .before .args in
-    let size = c .before .before .before .before .before .before .before .before .size in
-    let put-number2 = c .before .before .put-number2 in
+    let put = c .before .before .put-number2 in
     let e : refused (number .given .0 .0) ≡ sizeOf (args .value) = rw (number .given .1) at (size .ensures .is) in
-    rw (← e) (says-refused (refusedWord ∷ decimalText (number .given .0 .0) ∷ []) (put-number2 .result) (now (args .out)) (put-number2 .last .0) (put-number2 .ensures) (number .given .0 .0))
+    rw (← e) (says-refused (refusedWord ∷ decimalText (number .given .0 .0) ∷ []) (put .result) (now (args .out)) (put .last .0) (put .ensures) (number .given .0 .0))
 
 pub say-size-spec : {M : Type 1} → statement M
 say-size-spec =
