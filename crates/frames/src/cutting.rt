@@ -7,10 +7,8 @@ ghost use Rattle.varint.specs.Varint.{width, class, shortest};
 ghost use Rattle.frames.specs.Frame.{encode};
 ghost use Rattle.frames.specs.Join.{limit};
 ghost use Rattle.frames.specs.Cut.{shortFrame, framesOf, Cuts};
+use crate::joining::LIMIT;
 use varint::Width;
-
-// The longest hello, and the most data in one frame.
-const LIMIT: usize = 16384;
 
 // The length of all frames, or the number of the refusal.
 pub enum Cut {

@@ -8,7 +8,7 @@ use crate::reading::FrameRead;
 use crate::reading::read_frame;
 
 // The longest stream, and the least length of each buffer.
-const LIMIT: usize = 16384;
+pub const LIMIT: usize = 16384;
 
 // The end of the stream, or the number of the refusal.
 pub enum Joined {
