@@ -19,7 +19,7 @@ use Rattle.frames.specs.Frame.{encode, encodeAll}
 use Rattle.frames.specs.Join.{limit}
 use Rattle.frames.specs.Cut.{shortFrame, cutFrom, cut, framesOf, cutOf, afterCut, Cuts}
 use Rattle.frames.specs.declared.cutting.Cut.the-variants as cut-answer
-use Rattle.frames.proofs.Writing.{lentFrom, backFrom, Writing, stored, restated, next-room, writes}
+use Rattle.wire.proofs.Writing.{lentFrom, backFrom, Writing, stored, restated, next-room, writes}
 
 -- ---- varints of numbers up to the limit
 

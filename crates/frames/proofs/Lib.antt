@@ -13,7 +13,6 @@ pub mod PlacingLaws
 pub mod StepLaws
 pub mod JoinLaws
 pub mod RoomLaws
-pub mod Writing
 pub mod CutLaws
 pub mod CutJoined
 pub mod Results

@@ -3,3 +3,5 @@ pub mod FrontLaws
 pub mod ListLaws
 pub mod SumLaws
 pub mod AnswerLaws
+pub mod VectorLaws
+pub mod Writing

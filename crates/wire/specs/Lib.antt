@@ -1,4 +1,5 @@
 pub mod Answer
 pub mod Numbers
 pub mod Front
+pub mod Vectors
 pub mod Sums

@@ -4,7 +4,7 @@ use denote.Ref.{now}
 use lib.ListN.{length}
 use Rattle.varint.specs.Varint.{shortest}
 use Rattle.varint.proofs.RoundTrip.{length-shortest}
-use Rattle.frames.proofs.Writing.{same-length as kept, place-within, next-room, finished}
+use Rattle.wire.proofs.Writing.{same-length as kept, place-within, next-room, finished}
 use Rattle.frames.proofs.CutLaws.{shortest-most, frame-parts, length-frame, typed, offset-written, length-written, data-written}
 use native.Mathlib.Omega.{arith}
 use borrow.Author.Needs.{needs}

@@ -5,7 +5,7 @@ use denote.Ref.{now}
 use lib.ListN.{length, drop}
 use lib.Seq.{drop-length}
 use Rattle.frames.specs.Cut.{framesOf}
-use Rattle.frames.proofs.Writing.{Writing, begins, restated, same-length as kept, place-within, finished}
+use Rattle.wire.proofs.Writing.{Writing, begins, restated, same-length as kept, place-within, finished}
 use Rattle.frames.proofs.CutLaws.{Left, Turn, starts, ends, turn, goes-on, next-small, data-small, frame-room, frame-written}
 use borrow.Author.Needs.{needs}
 use native.Mathlib.Omega.{arith}

@@ -1,14 +1,14 @@
 -- A whole that is written piece by piece over the front of a buffer, each piece to the part after the last. Assumes nothing.
 use Prim.Native.Nat.{ℕ, zero-le, _+_, _-_, _≤_}
-use mathlib.Core.Path.{_≡_, refl, ap, _∙_}
-use mathlib.Core.List.{List, [], _∷_, _++_}
+use mathlib.Core.Path.{_≡_, refl, sym, ap, _∙_}
+use mathlib.Core.List.{List, [], _∷_, _++_, append-assoc}
 use native.Mathlib.Omega.{arith}
-use lib.ListN.{length, take, drop, set, length-drop}
-use lib.Seq.{take-all, length-take-le}
+use lib.ListN.{length, take, drop, set, length-append, length-drop}
+use lib.Seq.{take-all, drop-at, drop-drop, length-take-le}
 use borrow.Rule.Slice.PartMut.{midOf, putMid}
-use Rattle.wire.specs.Front.{front, Put}
+use Rattle.wire.specs.Front.{front, frontAt, Put}
 use Rattle.wire.proofs.ListLaws.{length-part-to-end}
-use Rattle.wire.proofs.FrontLaws.{front-none, length-front, stores, piece-drop, piece-length, piece-written}
+use Rattle.wire.proofs.FrontLaws.{front-none, length-front, stores, lent-front-at, piece-drop, piece-length, piece-written}
 
 -- the part `&mut out[n..]` as it is lent, and the buffer when it is back
 abbrev pub lentFrom : ℕ → List ℕ → List ℕ
@@ -31,10 +31,17 @@ begins whole old h = record { fits = h; within = zero-le; left = refl; is = fron
 pub stored : (x : ℕ) (rest old : List ℕ) → length (x ∷ rest) ≤ length old → Writing (x ∷ rest) rest old (set old 0 x) 1
 stored x rest old h = record { fits = h; within = omega arith; left = refl; is = stores (x ∷ []) old (omega arith) }
 
+-- a writer that gives no count
+pub filled : {ys old new : List ℕ} {n : ℕ} → length ys ≡ n → new ≡ front ys old → Put ys n old new
+filled h e = record { count = sym h; output = e }
+
 module _ {whole rest old out : List ℕ} {n : ℕ} (w : Writing whole rest old out n) where
   -- the rest, written in another way
   pub restated : {other : List ℕ} → drop n whole ≡ other → Writing whole other old out n
   restated e = record { fits = w .fits; within = w .within; left = e; is = w .is }
+
+  pub rest-is : {other : List ℕ} → rest ≡ other → Writing whole other old out n
+  rest-is e = restated (w .left ∙ e)
 
   pub same-length : length out ≡ length old
   same-length =
@@ -66,3 +73,12 @@ pub finished : {whole old out : List ℕ} {n : ℕ} → Writing whole [] old out
 finished {whole} {old} {n = n} w =
     let count : n ≡ length whole = omega (arith, w .within, length-drop n whole, ap length (w .left)) in
     record { count = count; output = w .is ∙ ap (λ (l : List ℕ). front l old) (take-all n whole (omega arith)) }
+
+-- the body was written to the part after the head's place, and then the head over the front
+pub headed : (head body old part : List ℕ) {n : ℕ} → length head ≡ n → n + length body ≤ length old → part ≡ front body (lentFrom n old)
+    → front head (backFrom n old part) ≡ front (head ++ body) old
+unfolding front frontAt
+headed head body old part {n} e h p =
+    let before : length (take n old) ≡ n = length-take-le n old (omega arith) in
+    rw (lent-front-at n (length old - n) body old part refl p, e, drop-at (take n old) (body ++ drop (length body) (drop n old)) n before)
+    (simp (length-append, append-assoc, drop-drop, e))
