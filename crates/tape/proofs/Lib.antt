@@ -1,0 +1,4 @@
+pub mod DrawLaws
+pub mod ShuffleLaws
+pub mod DrawnNumbers
+pub mod PartLaws
