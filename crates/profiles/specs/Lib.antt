@@ -1,0 +1,4 @@
+pub mod Profile
+pub mod Sizes
+pub mod Test
+pub mod Code
