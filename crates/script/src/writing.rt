@@ -196,6 +196,21 @@ pub fn put_number_and_bytes(out: &mut [u8], words: &[u8], number: u64, bytes: &[
     n + put_spaced(&mut out[n..], bytes)
 }
 
+// Writes words and a number, twice, a space and bytes.
+pub fn put_two_numbers_and_bytes(
+    out: &mut [u8],
+    words: &[u8],
+    number: u64,
+    more: &[u8],
+    second: u64,
+    bytes: &[u8],
+) -> usize
+    ensures { λ r. ⌜ WrittenAll (now (words .entry) ∷ decimalText number ∷ now (more .entry) ∷ decimalText second ∷ (space ∷ []) ∷ shownText (now (bytes .entry)) ∷ []) r (now (out .entry)) (now (out .exit)) ⌝ }
+{
+    let n = put_two_numbers(out, words, number, more, second);
+    n + put_spaced(&mut out[n..], bytes)
+}
+
 // The same, and a space and bytes again.
 pub fn put_number_and_two(
     out: &mut [u8],
