@@ -1,0 +1,53 @@
+-- An extension as the writers put it together: pieces, each written to the part after the last. Assumes nothing.
+use Prim.Native.Nat.{ℕ, _+_, _-_, _<_}
+use mathlib.Core.Path.{_≡_, refl, sym}
+use mathlib.Core.List.{List, [], _∷_, _++_, append-assoc}
+use native.Mathlib.Nat.{mod-eq-of-lt}
+use native.Mathlib.Omega.{arith}
+use lib.ListN.{length, length-append}
+use Rattle.wire.specs.Numbers.{digits}
+use Rattle.wire.specs.Vectors.{vector}
+use Rattle.wire.specs.Front.{front, Put}
+use Rattle.wire.proofs.NumberLaws.{length-digits}
+use Rattle.wire.proofs.VectorLaws.{length-vector}
+use Rattle.wire.proofs.FrontLaws.{lent-front}
+use Rattle.wire.proofs.Writing.{lentFrom, backFrom, filled}
+use Rattle.tls_extensions.specs.Extensions.{extension}
+
+-- n elements were written, and then others to the part after them
+pub joined : {a b old out part : List ℕ} {n m : ℕ}
+    → Put a n old out → Put b m (lentFrom n out) part → Put (a ++ b) (n + m) old (backFrom n out part)
+joined {a} {b} {old} {out} {part} {n} p q =
+    record {
+      count = omega (arith, p .count, q .count, length-append a b);
+      output = lent-front a b old out part n (length out - n) (sym (p .count)) (p .output) refl (q .output);
+    }
+
+-- what was written, said in another way
+pub put-as : {ys zs old new : List ℕ} {n : ℕ} → ys ≡ zs → Put ys n old new → Put zs n old new
+put-as e p = rw e at p
+
+-- a length in one byte, as `w8` writes it
+pub one-byte : {n : ℕ} {old new : List ℕ} → n < 256 → new ≡ front (n ∷ []) old → Put (digits 256 1 n) 1 old new
+unfolding digits
+one-byte {n} h e = rw (mod-eq-of-lt h) (filled refl e)
+
+pub length-head : (t n : ℕ) → length (digits 256 2 t ++ digits 256 2 n) ≡ 4
+length-head t n = omega (arith, length-append (digits 256 2 t) (digits 256 2 n), length-digits 256 2 t, length-digits 256 2 n)
+
+pub length-list-head : (t n : ℕ) → length ((digits 256 2 t ++ digits 256 2 (2 + n)) ++ digits 256 2 n) ≡ 6
+length-list-head t n =
+    omega (arith, length-append (digits 256 2 t ++ digits 256 2 (2 + n)) (digits 256 2 n), length-head t (2 + n), length-digits 256 2 n)
+
+pub extension-is : (t : ℕ) (body : List ℕ) → (digits 256 2 t ++ digits 256 2 (length body)) ++ body ≡ extension t body
+unfolding extension vector
+extension-is t body = append-assoc (digits 256 2 t) (digits 256 2 (length body)) body
+
+-- the body is a list of n bytes with its length before it, in so many bytes
+pub list-extension-is : (width t n : ℕ) (bs : List ℕ) → length bs ≡ n
+    → ((digits 256 2 t ++ digits 256 2 (width + n)) ++ digits 256 width n) ++ bs ≡ extension t (vector width bs)
+unfolding vector
+list-extension-is width t n bs e =
+    let long : width + n ≡ length (vector width bs) = omega (arith, length-vector width bs) in
+    let short : n ≡ length bs = sym e in
+    rw (long, short, append-assoc (digits 256 2 t ++ digits 256 2 (length (vector width bs)))) (extension-is t (vector width bs))

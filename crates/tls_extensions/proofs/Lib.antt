@@ -1,0 +1,3 @@
+pub mod ShareLaws
+pub mod LengthLaws
+pub mod HeadLaws

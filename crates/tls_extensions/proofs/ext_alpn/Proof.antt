@@ -1,0 +1,94 @@
+-- The head of a list, the length of the one name, the name. Assumes nothing.
+use denote.Ref.{now}
+use Prim.Native.Nat.{ℕ, _+_}
+use mathlib.Core.Path.{_≡_}
+use mathlib.Core.List.{List, [], _∷_, _++_, append-assoc, append-nil}
+use lib.ListN.{length}
+use Rattle.wire.specs.Numbers.{digits}
+use Rattle.wire.specs.Vectors.{vector}
+use Rattle.wire.proofs.VectorLaws.{length-vector}
+use Rattle.wire.proofs.Writing.{filled}
+use Rattle.tls_extensions.specs.Extensions.{extAlpn, protocols}
+use Rattle.tls_extensions.proofs.HeadLaws.{joined, put-as, one-byte, length-list-head, list-extension-is}
+use borrow.Author.Needs.{needs}
+use Rattle.tls_extensions.proofs.ext_alpn.Statement.{statement}
+use Rattle.tls_extensions.proofs.ext_alpn.Tie as tie
+
+-- one name with its length in a byte is the whole list
+alpn-is : (name : List ℕ) →
+    let n = length name in
+    (((digits 256 2 16 ++ digits 256 2 (2 + (1 + n))) ++ digits 256 2 (1 + n)) ++ digits 256 1 n) ++ name ≡ extAlpn (name ∷ [])
+unfolding extAlpn protocols vector
+alpn-is name =
+    let n : ℕ = length name in
+    rw (append-nil, append-assoc ((digits 256 2 16 ++ digits 256 2 (2 + (1 + n))) ++ digits 256 2 (1 + n)))
+    (list-extension-is 2 16 (1 + n) (vector 1 name) (length-vector 1 name))
+
+add-put-list-head : tie.Need-add-put-list-head
+add-put-list-head c = search needs
+
+put-list-head-requires : tie.Need-put-list-head-requires
+put-list-head-requires c κs = search needs
+
+sub-w8 : tie.Need-sub-w8
+sub-w8 c = search needs
+
+part-w8-start : tie.Need-part-w8-start
+part-w8-start c = search needs
+
+part-w8-end : tie.Need-part-w8-end
+part-w8-end c = search needs
+
+cast-w8 : tie.Need-cast-w8
+cast-w8 c = search needs
+
+w8-requires : tie.Need-w8-requires
+w8-requires c κs = search needs
+
+sub-put-bytes : tie.Need-sub-put-bytes
+sub-put-bytes c = search needs
+
+part-put-bytes-start : tie.Need-part-put-bytes-start
+part-put-bytes-start c = search needs
+
+part-put-bytes-end : tie.Need-part-put-bytes-end
+part-put-bytes-end c = search needs
+
+put-bytes-requires : tie.Need-put-bytes-requires
+put-bytes-requires c κs = search needs
+
+add-result : tie.Need-add-result
+add-result c = search needs
+
+same-length : tie.Need-same-length
+same-length c = search needs
+
+returns : tie.Need-returns
+returns c =
+    let args = c .before .before .before .before .before .before .before .before .before .before .before .before .before .before .args in
+    let put-list-head = c .before .before .before .before .before .before .before .before .before .before .put-list-head in
+    let pre = c .before .before .before .before .before .before .before .before .before .before .before .before .before .before .pre in
+    let w8 = c .before .before .before .before .before .before .w8 in
+    let name = now (args .name) in
+    let head = filled (length-list-head 16 (1 + length name)) (put-list-head .ensures) in
+    let count = one-byte (pre .1) (w8 .ensures) in
+    put-as (alpn-is name) (joined (joined head count) (c .before .before .put-bytes .ensures))
+
+pub ext-alpn-spec : {M : Type 1} → statement M
+ext-alpn-spec =
+    tie.close
+    (tie.spec
+    add-put-list-head
+    put-list-head-requires
+    sub-w8
+    part-w8-start
+    part-w8-end
+    cast-w8
+    w8-requires
+    sub-put-bytes
+    part-put-bytes-start
+    part-put-bytes-end
+    put-bytes-requires
+    add-result
+    same-length
+    returns)
