@@ -1,0 +1,6 @@
+pub mod LengthLaws
+pub mod VarintLaws
+pub mod ParameterLaws
+pub mod OrderLaws
+pub mod ShuffledLaws
+pub mod Sent

@@ -1,0 +1,98 @@
+-- The loop keeps `Noted`: the places of the parameters before i. Assumes nothing.
+use Prim.Native.Nat.{_-_, _<_}
+use mathlib.Core.Path.{_≡_, refl, sym, ap, _∙_}
+use lib.ListN.{length, getD}
+use Rattle.profiles.specs.Profile.{grease}
+use Rattle.profiles.specs.Sizes.{parameterDraws}
+use Rattle.tls_parameters.specs.Writing.{listed}
+use Rattle.tls_parameters.proofs.OrderLaws.{entry-is, length-listed, listed-at, Noted, noted-none, noted-more, next-within, noted-all}
+use borrow.Author.Needs.{needs}
+use native.Mathlib.Omega.{arith}
+use Rattle.tls_parameters.proofs.draw_places.Statement.{statement}
+use Rattle.tls_parameters.proofs.draw_places.Tie as tie
+
+abbrev Inv-loop : tie.InvT-loop
+Inv-loop count at entries of₀ t₀ i₀ of t i = Noted (listed entries count) at of t i
+
+abbrev μ-loop : tie.MeasureT-loop
+μ-loop count at entries of₀ t₀ i₀ of t i = count - i
+
+long : (c : tie.Start Inv-loop μ-loop) → length (listed (c .args .t1) (c .args .count)) ≡ c .args .count
+long c = length-listed (c .args .t1) (c .args .count) (omega (arith, c .good, c .pre .0))
+
+drawn : (c : tie.After-parameter-draws Inv-loop μ-loop)
+    → let args = c .before .before .before .before .args in
+    c .parameter-draws .result ≡ parameterDraws (getD (listed (args .t1) (args .count)) (c .before .before .before .loop .i) grease)
+drawn c =
+    let args = c .before .before .before .before .args in
+    let good = c .before .before .before .before .good in
+    let pre = c .before .before .before .before .pre in
+    let loop = c .before .before .before .loop in
+    let loop-test = c .before .before .loop-test in
+    let parameter-draws = c .parameter-draws in
+    let i = loop .i in
+    let h : i < args .count = loop-test .taken in
+    parameter-draws .ensures .0
+    ∙ ap parameterDraws (entry-is (args .t1) i _ (omega (arith, good, pre .0)) ∙ sym (listed-at (args .t1) (args .count) i h))
+
+more : (c : tie.After-parameter-draws Inv-loop μ-loop)
+    → let args = c .before .before .before .before .args in
+    c .before .before .before .loop .i < length (listed (args .t1) (args .count))
+more c = rw (long (c .before .before .before .before)) (c .before .before .loop-test .taken)
+
+loop-holds : tie.Need-loop-holds Inv-loop μ-loop
+loop-holds c = noted-none (listed (c .args .t1) (c .args .count)) (c .args .at) _ refl
+
+mul-of : tie.Need-mul-of Inv-loop μ-loop
+mul-of c = search needs
+
+array-write-of : tie.Need-array-write-of Inv-loop μ-loop
+array-write-of c = search needs
+
+mul-parameter-draws : tie.Need-mul-parameter-draws Inv-loop μ-loop
+mul-parameter-draws c = search needs
+
+array-copy-out-parameter-draws : tie.Need-array-copy-out-parameter-draws Inv-loop μ-loop
+array-copy-out-parameter-draws c = search needs
+
+parameter-draws-requires : tie.Need-parameter-draws-requires Inv-loop μ-loop
+parameter-draws-requires c κs = search needs
+
+add-t : tie.Need-add-t Inv-loop μ-loop
+add-t c =
+    let pre = c .before .before .before .before .pre in
+    let loop = c .before .before .before .loop in
+    omega (arith, next-within (loop .inv) (more c) (drawn c), pre .1)
+
+add-i : tie.Need-add-i Inv-loop μ-loop
+add-i c = search needs
+
+loop-less : tie.Need-loop-less Inv-loop μ-loop
+loop-less c = search needs
+
+loop-again : tie.Need-loop-again Inv-loop μ-loop
+loop-again c =
+    let pre = c .before .before .before .before .pre in
+    let loop = c .before .before .before .loop in
+    noted-more (loop .inv) (more c) (omega (arith, pre .0)) (drawn c)
+
+returns : tie.Need-returns Inv-loop μ-loop
+returns c = noted-all (c .before .loop .inv) (rw (long (c .before .before)) (c .loop-test .left))
+
+pub draw-places-spec : {M : Type 1} → statement M
+draw-places-spec =
+    tie.close
+    (tie.spec
+    Inv-loop
+    μ-loop
+    loop-holds
+    mul-of
+    array-write-of
+    mul-parameter-draws
+    array-copy-out-parameter-draws
+    parameter-draws-requires
+    add-t
+    add-i
+    loop-less
+    loop-again
+    returns)

@@ -1,0 +1,42 @@
+-- `write` refuses no number below 2^62 that has room. Assumes nothing.
+use denote.Ref.{now}
+use Rattle.tls_parameters.proofs.VarintLaws.{put, never-unput}
+use borrow.Author.Needs.{needs}
+use Rattle.tls_parameters.proofs.put_varint.Statement.{statement}
+use Rattle.tls_parameters.proofs.put_varint.Tie as tie
+
+write-requires : tie.Need-write-requires
+write-requires c κs = search needs
+
+enum-known-n : tie.Need-enum-known-n
+enum-known-n c = search needs
+
+enum-told : tie.Need-enum-told
+enum-told c = search needs
+
+same-length : tie.Need-same-length
+same-length c = search needs
+
+returns : tie.Need-returns
+returns c =
+    let args = c .before .before .before .before .before .before .before .before .args in
+    let pre = c .before .before .before .before .before .before .before .before .pre in
+    let write = c .before .before .before .before .before .write in
+    let n = c .before .n in
+    put (args .value) (pre .0) (now (args .out)) (pre .1) (n .given .0 .0) (write .last .1 .0) (rw (n .given .1) at (write .ensures))
+
+same-length-2 : tie.Need-same-length-2
+same-length-2 c = search needs
+
+returns-2 : tie.Need-returns-2
+returns-2 c =
+    let args = c .before .before .before .before .before .before .before .args in
+    let pre = c .before .before .before .before .before .before .before .pre in
+    let write = c .before .before .before .before .write in
+    let enum-told = c .enum-told in
+    absurd (never-unput (args .value) (pre .0) (now (args .out)) (pre .1) _ _ (rw (enum-told .given .1) at (write .ensures)))
+
+pub put-varint-spec : {M : Type 1} → statement M
+put-varint-spec =
+    tie.close
+    (tie.spec write-requires enum-known-n enum-told same-length returns same-length-2 returns-2)

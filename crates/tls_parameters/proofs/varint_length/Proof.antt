@@ -1,0 +1,33 @@
+-- `size` refuses no number below 2^62. Assumes nothing.
+use Rattle.tls_parameters.proofs.VarintLaws.{sized, never-unsized}
+use borrow.Author.Needs.{needs}
+use Rattle.tls_parameters.proofs.varint_length.Statement.{statement}
+use Rattle.tls_parameters.proofs.varint_length.Tie as tie
+
+size-requires : tie.Need-size-requires
+size-requires c κs = search needs
+
+enum-known-n : tie.Need-enum-known-n
+enum-known-n c = search needs
+
+enum-told : tie.Need-enum-told
+enum-told c = search needs
+
+returns : tie.Need-returns
+returns c =
+    let args = c .before .before .before .before .args in
+    let pre = c .before .before .before .before .pre in
+    let size = c .before .before .before .size in
+    let n = c .before .n in
+    sized (args .value) (pre) (n .given .0 .0) (rw (n .given .1) at (size .ensures))
+
+returns-2 : tie.Need-returns-2
+returns-2 c =
+    let args = c .before .before .before .args in
+    let pre = c .before .before .before .pre in
+    let size = c .before .before .size in
+    let enum-told = c .enum-told in
+    absurd (never-unsized (args .value) (pre) _ (rw (enum-told .given .1) at (size .ensures)))
+
+pub varint-length-spec : {M : Type 1} → statement M
+varint-length-spec = tie.close (tie.spec size-requires enum-known-n enum-told returns returns-2)
