@@ -1,5 +1,5 @@
--- The frame writer: what its varints promise, how long frames are, what is left to be cut at a turn of its loops, and its answers. Assumes nothing.
-use Prim.Native.Nat.{ℕ, zero, suc, zero-le, _+_, _-_, _*_, _^_, _≤_, _<_, min}
+-- The frame writer: how long frames are, what is left to be cut at a turn of its loops, and its answers. Assumes nothing.
+use Prim.Native.Nat.{ℕ, zero, suc, zero-le, _+_, _-_, _*_, _≤_, _<_, min}
 use mathlib.Core.Path.{_≡_, refl, sym, ap, _∙_}
 use mathlib.Core.Logic.{⊎-elim}
 use mathlib.Core.List.{List, [], _∷_, _++_, append-nil}
@@ -7,30 +7,20 @@ use native.Mathlib.Omega.{arith}
 use lib.ListN.{length, take, drop, set, length-append, length-take, length-drop}
 use lib.Seq.{take-all, drop-drop}
 use lib.Dec.{leb, lit≤}
-use borrow.Author.Tests.{lt-ltb, le-leb, lt-leb}
+use borrow.Author.Tests.{le-leb, lt-leb}
 use Rattle.wire.specs.Answer.{result, refused, ask, IsNumber}
 use Rattle.wire.specs.Front.{Put}
 use Rattle.wire.proofs.ListLaws.{lt-or-le}
 use Rattle.wire.proofs.FrontLaws.{piece-drop, piece-length}
-use Rattle.varint.specs.Varint.{width, class, shortest, writeOf, afterWrite, Sized, Written}
-use Rattle.varint.specs.declared.Width.the-variants as width-answer
-use Rattle.varint.proofs.RoundTrip.{length-shortest, size-small}
+use Rattle.varint.specs.Varint.{width, class, shortest}
+use Rattle.varint.proofs.RoundTrip.{length-shortest}
 use Rattle.frames.specs.Frame.{encode, encodeAll}
 use Rattle.frames.specs.Join.{limit}
 use Rattle.frames.specs.Cut.{shortFrame, cutFrom, cut, framesOf, cutOf, afterCut, Cuts}
 use Rattle.frames.specs.declared.cutting.Cut.the-variants as cut-answer
 use Rattle.wire.proofs.Writing.{lentFrom, backFrom, Writing, stored, restated, next-room, writes}
 
--- ---- varints of numbers up to the limit
-
-apart : {n k : ℕ} → refused k ≡ result n → ⊥
-apart e = let z : _≡_ {A = ℕ} 0 1 = cc in omega arith
-
-same : {n k : ℕ} → result n ≡ result k → n ≡ k
-same e = cc
-
-below : (v : ℕ) → v ≤ limit → v < 2 ^ 62
-below v h = omega arith
+-- ---- varints
 
 -- of any class, in the table or not
 width-any : (c : ℕ) → width c ≤ 8
@@ -42,25 +32,6 @@ width-any (suc (suc (suc (suc c)))) = zero-le
 
 pub shortest-most : (v : ℕ) → length (shortest v) ≤ 8
 shortest-most v = rw (length-shortest v) (width-any (class v))
-
-module _ (v : ℕ) (h : v ≤ limit) where
-  pub sized : (n : ℕ) → Sized v (width-answer.Bytes n) → (n ≡ width (class v)) × (n ≤ 8)
-  sized n s = (same (s .is ∙ size-small v (below v h)), s .bounds .1)
-
-  pub never-unsized : (k : ℕ) → Sized v (width-answer.Refused k) → ⊥
-  never-unsized k s = apart (s .is ∙ size-small v (below v h))
-
-  module _ (old : List ℕ) (l : width (class v) ≤ length old) where
-    write-small : writeOf v (length old) ≡ result (width (class v))
-    unfolding writeOf
-    write-small = rw (lt-ltb v (2 ^ 62) (below v h), le-leb (width (class v)) (length old) l)
-
-    pub put : (n : ℕ) (new : List ℕ) → Written v old (width-answer.Bytes n) new → Put (shortest v) n old new
-    unfolding afterWrite
-    put n new w = record { count = same (w .is ∙ write-small) ∙ sym (length-shortest v); output = w .output ∙ rw write-small }
-
-    pub never-unput : (k : ℕ) (new : List ℕ) → Written v old (width-answer.Refused k) new → ⊥
-    never-unput k new w = apart (w .is ∙ write-small)
 
 -- ---- one frame
 

@@ -3,12 +3,12 @@ ghost use Prim.Native.Nat.{_+_, _≤_, min};
 ghost use mathlib.Core.Path.{_≡_};
 ghost use lib.ListN.{length};
 ghost use Rattle.wire.specs.Front.{Put};
-ghost use Rattle.varint.specs.Varint.{width, class, shortest};
 ghost use Rattle.frames.specs.Frame.{encode};
 ghost use Rattle.frames.specs.Join.{limit};
 ghost use Rattle.frames.specs.Cut.{shortFrame, framesOf, Cuts};
 use crate::joining::LIMIT;
-use varint::Width;
+use varint::put_varint;
+use varint::varint_length;
 
 // The length of all frames, or the number of the refusal.
 pub enum Cut {
@@ -16,33 +16,12 @@ pub enum Cut {
     Refused(u64),
 }
 
-// The shortest width of a number that has one.
-fn varint_length(value: usize) -> usize
-    requires { ⌜ value ≤ limit ⌝ }
-    ensures { λ r. ⌜ (r ≡ width (class value)) × (r ≤ 8) ⌝ }
-{
-    match varint::size(value as u64) {
-        Width::Bytes(n) => n,
-        Width::Refused(_) => 0,
-    }
-}
-
-fn put_varint(out: &mut [u8], value: usize) -> usize
-    requires { ⌜ (value ≤ limit) × (width (class value) ≤ length (now out)) ⌝ }
-    ensures { λ r. ⌜ Put (shortest value) r (now (out .entry)) (now (out .exit)) ⌝ }
-{
-    match varint::write(value as u64, out) {
-        Width::Bytes(n) => n,
-        Width::Refused(_) => 0,
-    }
-}
-
 // How many bytes the frame of some data takes.
 fn frame_length(offset: usize, bytes: &[u8]) -> usize
     requires { ⌜ (offset ≤ limit) × (length (now bytes) ≤ limit) ⌝ }
     ensures { λ r. ⌜ (r ≡ length (encode (shortFrame (record { offset = offset; bytes = now (bytes .entry) })))) × (r ≤ 17 + length (now (bytes .entry))) ⌝ }
 {
-    1 + varint_length(offset) + varint_length(bytes.len()) + bytes.len()
+    1 + varint_length(offset as u64) + varint_length(bytes.len() as u64) + bytes.len()
 }
 
 // The end of the data that begins at a place.
@@ -74,8 +53,8 @@ fn put_frame(out: &mut [u8], offset: usize, bytes: &[u8]) -> usize
     ensures { λ r. ⌜ Put (encode (shortFrame (record { offset = offset; bytes = now (bytes .entry) }))) r (now (out .entry)) (now (out .exit)) ⌝ }
 {
     out[0] = 0x06;
-    let a = 1 + put_varint(&mut out[1..], offset);
-    let b = a + put_varint(&mut out[a..], bytes.len());
+    let a = 1 + put_varint(&mut out[1..], offset as u64);
+    let b = a + put_varint(&mut out[a..], bytes.len() as u64);
     b + wire::put_bytes(&mut out[b..], bytes)
 }
 

@@ -1,5 +1,4 @@
 pub mod LengthLaws
-pub mod VarintLaws
 pub mod ParameterLaws
 pub mod OrderLaws
 pub mod ShuffledLaws

@@ -4,7 +4,7 @@ ghost use mathlib.Core.Path.{_≡_};
 ghost use Prim.Native.Nat.{_+_, _^_, _≤_, _<_};
 ghost use lib.ListN.{length, take};
 ghost use Rattle.wire.specs.Front.{Put};
-ghost use Rattle.varint.specs.Varint.{width, class, shortest};
+ghost use Rattle.varint.specs.Varint.{shortest};
 ghost use Rattle.profiles.specs.Sizes.{parameterDraws};
 ghost use Rattle.profiles.specs.Code.{tpBytes, parameterOf};
 ghost use Rattle.tape.specs.Tape.{randBytes, nextU64, greaseId, versionInformation};
@@ -15,27 +15,8 @@ use profiles::ExtType;
 use profiles::TpEntry;
 use profiles::ext;
 use tape::Wrote;
-use varint::Width;
-
-fn put_varint(out: &mut [u8], value: u64) -> usize
-    requires { ⌜ (value < 2 ^ 62) × (width (class value) ≤ length (now out)) ⌝ }
-    ensures { λ r. ⌜ Put (shortest value) r (now (out .entry)) (now (out .exit)) ⌝ }
-{
-    match varint::write(value, out) {
-        Width::Bytes(n) => n,
-        Width::Refused(_) => 0,
-    }
-}
-
-fn varint_length(value: u64) -> usize
-    requires { ⌜ value < 2 ^ 62 ⌝ }
-    ensures { λ r. ⌜ (r ≡ width (class value)) × (r ≤ 8) ⌝ }
-{
-    match varint::size(value) {
-        Width::Bytes(n) => n,
-        Width::Refused(_) => 0,
-    }
-}
+use varint::put_varint;
+use varint::varint_length;
 
 // Id, length of the value, value.
 fn put_value(out: &mut [u8], id: u64, value: &[u8]) -> usize

@@ -2,3 +2,4 @@ pub mod TableLaws
 pub mod ByteLaws
 pub mod RoundTrip
 pub mod Promises
+pub mod RoomLaws

@@ -1,11 +1,11 @@
 // Variable-length integers of QUIC (varint.rs; RFC 9000, section 16): one, two, four or eight bytes. The two top bits of the first
 // byte say how many, the rest is the value, highest byte first. Document 01, questions 1 to 3.
 ghost use mathlib.Core.Path.{_≡_};
-ghost use Prim.Native.Nat.{_+_, _≤_, _<_};
+ghost use Prim.Native.Nat.{_+_, _^_, _≤_, _<_};
 ghost use lib.ListN.{length, take, drop};
 ghost use Rattle.wire.specs.Numbers.{digits, number};
-ghost use Rattle.wire.specs.Front.{front};
-ghost use Rattle.varint.specs.Varint.{width, ceiling, class, form, Sized, Written, Found};
+ghost use Rattle.wire.specs.Front.{front, Put};
+ghost use Rattle.varint.specs.Varint.{width, ceiling, class, form, shortest, Sized, Written, Found};
 use wire::wide;
 
 // The widths in bytes, and the first value that each is too narrow for. A class is a place in this table.
@@ -133,6 +133,28 @@ pub fn write(value: u64, out: &mut [u8]) -> Width
     }
     put_form(out, class, value);
     Width::Bytes(width)
+}
+
+// The shortest width of a value that has one, for callers that know it.
+pub fn varint_length(value: u64) -> usize
+    requires { ⌜ value < 2 ^ 62 ⌝ }
+    ensures { λ r. ⌜ (r ≡ width (class value)) × (r ≤ 8) ⌝ }
+{
+    match size(value) {
+        Width::Bytes(n) => n,
+        Width::Refused(_) => 0,
+    }
+}
+
+// Writes a value that has a varint over the front of an output that holds it, and gives the width.
+pub fn put_varint(out: &mut [u8], value: u64) -> usize
+    requires { ⌜ (value < 2 ^ 62) × (width (class value) ≤ length (now out)) ⌝ }
+    ensures { λ r. ⌜ Put (shortest value) r (now (out .entry)) (now (out .exit)) ⌝ }
+{
+    match write(value, out) {
+        Width::Bytes(n) => n,
+        Width::Refused(_) => 0,
+    }
 }
 
 // The number that the four bytes from a place on write.

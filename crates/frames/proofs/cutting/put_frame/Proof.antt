@@ -45,7 +45,7 @@ put-varint-requires c κs =
     let at = args .offset in
     let bs = now (args .bytes) in
     let old = now (args .out) in
-    (pre .0, next-room (shortest at) _ (typed at bs old (pre .2)) (length-shortest at))
+    (omega (arith, pre .0), next-room (shortest at) _ (typed at bs old (pre .2)) (length-shortest at))
 
 add-a : tie.Need-add-a
 add-a c =
@@ -82,7 +82,7 @@ put-varint-requires-2 c κs =
     let pre = c .before .before .before .before .before .before .before .pre in
     let put-varint = c .before .before .before .put-varint in
     let bs = now (args .bytes) in
-    (pre .1, next-room (shortest (length bs)) _ (offset-written (args .offset) bs (now (args .out)) (pre .2) (put-varint .ensures)) (length-shortest (length bs)))
+    (omega (arith, pre .1), next-room (shortest (length bs)) _ (offset-written (args .offset) bs (now (args .out)) (pre .2) (put-varint .ensures)) (length-shortest (length bs)))
 
 add-b : tie.Need-add-b
 add-b c =

@@ -1,9 +1,9 @@
--- `put_varint` writes the shortest form: `write` refuses no number up to the limit that has room. Assumes nothing.
+-- `write` refuses no number below 2^62 that has room. Assumes nothing.
 use denote.Ref.{now}
-use Rattle.frames.proofs.CutLaws.{put, never-unput}
+use Rattle.varint.proofs.RoomLaws.{put, never-unput}
 use borrow.Author.Needs.{needs}
-use Rattle.frames.proofs.cutting.put_varint.Statement.{statement}
-use Rattle.frames.proofs.cutting.put_varint.Tie as tie
+use Rattle.varint.proofs.put_varint.Statement.{statement}
+use Rattle.varint.proofs.put_varint.Tie as tie
 
 write-requires : tie.Need-write-requires
 write-requires c κs = search needs
@@ -21,8 +21,8 @@ returns : tie.Need-returns
 returns c =
     let args = c .before .before .before .before .before .before .before .before .args in
     let pre = c .before .before .before .before .before .before .before .before .pre in
-    let n = c .before .n in
     let write = c .before .before .before .before .before .write in
+    let n = c .before .n in
     put (args .value) (pre .0) (now (args .out)) (pre .1) (n .given .0 .0) (write .last .1 .0) (rw (n .given .1) at (write .ensures))
 
 same-length-2 : tie.Need-same-length-2
@@ -33,7 +33,8 @@ returns-2 c =
     let args = c .before .before .before .before .before .before .before .args in
     let pre = c .before .before .before .before .before .before .before .pre in
     let write = c .before .before .before .before .write in
-    absurd (never-unput (args .value) (pre .0) (now (args .out)) (pre .1) _ _ (rw (c .enum-told .given .1) at (write .ensures)))
+    let enum-told = c .enum-told in
+    absurd (never-unput (args .value) (pre .0) (now (args .out)) (pre .1) _ _ (rw (enum-told .given .1) at (write .ensures)))
 
 pub put-varint-spec : {M : Type 1} → statement M
 put-varint-spec =

@@ -1,8 +1,8 @@
 -- `size` refuses no number below 2^62. Assumes nothing.
-use Rattle.tls_parameters.proofs.VarintLaws.{sized, never-unsized}
+use Rattle.varint.proofs.RoomLaws.{sized, never-unsized}
 use borrow.Author.Needs.{needs}
-use Rattle.tls_parameters.proofs.varint_length.Statement.{statement}
-use Rattle.tls_parameters.proofs.varint_length.Tie as tie
+use Rattle.varint.proofs.varint_length.Statement.{statement}
+use Rattle.varint.proofs.varint_length.Tie as tie
 
 size-requires : tie.Need-size-requires
 size-requires c κs = search needs
