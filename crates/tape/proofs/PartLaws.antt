@@ -1,12 +1,13 @@
 -- A whole part that is written part by part, each drawn from where the one before stopped. Assumes nothing.
 use Prim.Native.Nat.{ℕ, _+_, _≤_}
-use mathlib.Core.Path.{_≡_, refl, sym}
-use mathlib.Core.List.{List, []}
+use mathlib.Core.Path.{_≡_, refl, sym, _∙_}
+use mathlib.Core.List.{List, [], _++_}
 use native.Mathlib.Omega.{arith}
-use lib.ListN.{length}
+use lib.ListN.{length, length-append}
 use Rattle.wire.proofs.FrontLaws.{piece-length}
-use Rattle.wire.proofs.Writing.{Writing, lentFrom, backFrom, begins, next-room, writes, finished}
-use Rattle.tape.specs.Part.{Part, undrawn, followed, Room, Puts}
+use Rattle.wire.specs.Front.{front}
+use Rattle.wire.proofs.Writing.{Writing, lentFrom, backFrom, begins, next-room, writes, finished, headed}
+use Rattle.tape.specs.Part.{Part, undrawn, followed, wrapped, Room, Puts}
 use Rattle.tape.specs.declared.Wrote.{Wrote}
 
 -- n bytes of the whole stand; the rest is still to be written, and its draws end where those of the whole do
@@ -36,3 +37,18 @@ module _ {whole : Part} {old out : List ℕ} {n : ℕ} (a : Part) (f : ℕ → P
 
 pub part-finished : {whole : Part} {old out : List ℕ} {n t : ℕ} → Drawing whole (undrawn [] t) old out n → Puts whole (record { length = n; next = t }) old out
 part-finished d = record { put = finished (d .writing); next = d .ends }
+
+-- a part was written after the place of its head, which tells its length, and then the head over the front
+pub headed-part : (head : ℕ → List ℕ) {k : ℕ} → ((n : ℕ) → length (head n) ≡ k) → (a : Part) {w : Wrote} {old part new : List ℕ}
+    → k + length (a .bytes) ≤ length old → Puts a w (lentFrom k old) part → new ≡ front (head (w .length)) (backFrom k old part)
+    → Puts (wrapped (λ b. head (length b) ++ b) a) (record { length = k + w .length; next = w .next }) old new
+headed-part head long a {w} {old} {part} h p e =
+    let count = p .put .count in
+    let here = rw count at e in
+    record {
+      put = record {
+        count = omega (arith, count, length-append (head (length (a .bytes))) (a .bytes), long (length (a .bytes)));
+        output = here ∙ headed (head (length (a .bytes))) (a .bytes) old part (long (length (a .bytes))) h (p .put .output);
+      };
+      next = p .next;
+    }

@@ -5,7 +5,7 @@ use native.Mathlib.Nat.{le-of-suc-le-suc, not-suc-le-zero, mod-lt, zero-lt-suc}
 use native.Mathlib.Numerals.{add-one}
 use native.Mathlib.Omega.{arith}
 use mathlib.Core.List.{List, [], _∷_, map}
-use lib.ListN.{length, take, drop, set, getD, List·getD-map}
+use lib.ListN.{length, take, drop, set, getD, length-map, List·getD-map}
 use lib.Seq.{drop-cons, take-length}
 use Rattle.wire.specs.Sums.{total, Permutation, swapped}
 use Rattle.wire.proofs.ListLaws.{getD-any-default}
@@ -106,13 +106,9 @@ module _ {A B : Type 0} (f : A → B) where
   swaps-map d l (r ∷ rs) =
       swaps-map d (swapped d l (suc (length rs)) r) rs ∙ ap (λ (m : List B). swaps (f d) m rs) (swapped-map d l (suc (length rs)) r)
 
-  pub length-map : (l : List A) → length (map f l) ≡ length l
-  length-map [] = refl
-  length-map (x ∷ l) = ap suc (length-map l)
-
   pub shuffle-map : (d : A) (l : List A) (tape : List ℕ) (at : ℕ) → map f (shuffle d l tape at) ≡ shuffle (f d) (map f l) tape at
   unfolding shuffle
-  shuffle-map d l tape at = rw (length-map l) (swaps-map d l (remainders (length l - 1) tape at))
+  shuffle-map d l tape at = rw (length-map l f) (swaps-map d l (remainders (length l - 1) tape at))
 
 -- ---- places
 
@@ -125,6 +121,20 @@ pub length-upto : (i n : ℕ) → length (upto i n) ≡ n
 unfolding upto
 length-upto i zero = refl
 length-upto i (suc n) = ap suc (length-upto (suc i) n)
+
+take-upto : (n m i : ℕ) → n ≤ m → take n (upto i m) ≡ upto i n
+unfolding upto
+take-upto zero m i h = refl
+take-upto (suc n) zero i h = absurd (not-suc-le-zero h)
+take-upto (suc n) (suc m) i h = ap (λ (l : List ℕ). i ∷ l) (take-upto n m (suc i) (le-of-suc-le-suc h))
+
+-- the code's table of places, and its front as the code takes it
+abbrev pub firstPlaces : List ℕ
+firstPlaces = 0 ∷ 1 ∷ 2 ∷ 3 ∷ 4 ∷ 5 ∷ 6 ∷ 7 ∷ 8 ∷ 9 ∷ 10 ∷ 11 ∷ 12 ∷ 13 ∷ 14 ∷ []
+
+pub first-places : (n : ℕ) → n ≤ 15 → take (n - 0) firstPlaces ≡ upto 0 n
+unfolding upto
+first-places n h = let all : n - 0 ≡ n = omega arith in rw all (take-upto n 15 0 h)
 
 pub map-upto : {A : Type 0} (d : A) (l : List A) (i n : ℕ) → i + n ≤ length l → map (λ j. getD l j d) (upto i n) ≡ take n (drop i l)
 unfolding upto

@@ -59,6 +59,9 @@ fn place_up_to(tape: &[u8], at: usize, i: usize) -> usize
     (next_u64(tape, at) % (i as u64 + 1)) as usize
 }
 
+// The places of a list in order, with which a shuffle of its places begins. No list of a profile is longer.
+pub const PLACES: [usize; 15] = [0, 1, 2, 3, 4, 5, 6, 7, 8, 9, 10, 11, 12, 13, 14];
+
 // Fisher-Yates, from the last place down to 1; gives the place on the tape after its last draw.
 pub fn shuffle(v: &mut [usize], tape: &[u8], at: usize) -> usize
     requires { ⌜ (length (now v) < 65536) × (afterShuffle (length (now v)) at ≤ length (now tape)) ⌝ }

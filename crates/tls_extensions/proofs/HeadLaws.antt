@@ -1,5 +1,5 @@
--- An extension as the writers put it together: pieces, each written to the part after the last. Assumes nothing.
-use Prim.Native.Nat.{ℕ, _+_, _-_, _<_}
+-- What stands before the body of an extension, as the writers put it together. Assumes nothing.
+use Prim.Native.Nat.{ℕ, _+_, _<_}
 use mathlib.Core.Path.{_≡_, refl, sym}
 use mathlib.Core.List.{List, [], _∷_, _++_, append-assoc}
 use native.Mathlib.Nat.{mod-eq-of-lt}
@@ -10,22 +10,8 @@ use Rattle.wire.specs.Vectors.{vector}
 use Rattle.wire.specs.Front.{front, Put}
 use Rattle.wire.proofs.NumberLaws.{length-digits}
 use Rattle.wire.proofs.VectorLaws.{length-vector}
-use Rattle.wire.proofs.FrontLaws.{lent-front}
-use Rattle.wire.proofs.Writing.{lentFrom, backFrom, filled}
+use Rattle.wire.proofs.Writing.{filled}
 use Rattle.tls_extensions.specs.Extensions.{extension}
-
--- n elements were written, and then others to the part after them
-pub joined : {a b old out part : List ℕ} {n m : ℕ}
-    → Put a n old out → Put b m (lentFrom n out) part → Put (a ++ b) (n + m) old (backFrom n out part)
-joined {a} {b} {old} {out} {part} {n} p q =
-    record {
-      count = omega (arith, p .count, q .count, length-append a b);
-      output = lent-front a b old out part n (length out - n) (sym (p .count)) (p .output) refl (q .output);
-    }
-
--- what was written, said in another way
-pub put-as : {ys zs old new : List ℕ} {n : ℕ} → ys ≡ zs → Put ys n old new → Put zs n old new
-put-as e p = rw e at p
 
 -- a length in one byte, as `w8` writes it
 pub one-byte : {n : ℕ} {old new : List ℕ} → n < 256 → new ≡ front (n ∷ []) old → Put (digits 256 1 n) 1 old new

@@ -6,7 +6,7 @@ use native.Mathlib.Decide.{ℕ-discrete}
 use native.Mathlib.Nat.{not-suc-le-zero, le-of-suc-le-suc}
 use native.Mathlib.Numerals.{add-one}
 use native.Mathlib.Omega.{arith}
-use lib.ListN.{length, take, drop, set, getD, length-set, List·getD-map, drop-of-length-le}
+use lib.ListN.{length, take, drop, set, getD, length-set, List·getD-map, drop-of-length-le, length-map}
 use lib.Seq.{drop-cons, getD-take, getD-set-same, getD-set-other, length-take-le, take-length}
 use Rattle.wire.specs.Front.{Put}
 use Rattle.wire.proofs.ListLaws.{getD-any-default}
@@ -16,7 +16,6 @@ use Rattle.profiles.specs.Sizes.{parameterDraws}
 use Rattle.profiles.specs.Code.{parameterOf}
 use Rattle.profiles.specs.declared.TpEntry.{TpEntry}
 use Rattle.profiles.specs.declared.TpEntry.the-variants as entry
-use Rattle.tape.proofs.ShuffleLaws.{length-map}
 use Rattle.tls_parameters.specs.Parameters.{none, resolve, resolved, afterParameters, parameters}
 use Rattle.tls_parameters.specs.Writing.{listed, resolvedBytes, PlacesOf, entryAt, picked}
 use Rattle.tls_parameters.proofs.LengthLaws.{after-parameters}
@@ -54,7 +53,7 @@ entry-is entries k d h = ap parameterOf (getD-any-default entries k d entry.Grea
 
 module _ (entries : List TpEntry) (count : ℕ) where
   pub length-listed : count ≤ length entries → length (listed entries count) ≡ count
-  length-listed h = length-map parameterOf (take count entries) ∙ length-take-le count entries h
+  length-listed h = length-map (take count entries) parameterOf ∙ length-take-le count entries h
 
   pub listed-at : (i : ℕ) → i < count → getD (listed entries count) i grease ≡ entryAt entries i
   listed-at i h = List·getD-map parameterOf (take count entries) i entry.Grease ∙ ap parameterOf (getD-take count entries i entry.Grease h)

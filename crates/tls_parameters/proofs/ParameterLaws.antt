@@ -7,23 +7,13 @@ use lib.ListN.{length, take, drop, length-append}
 use lib.Dec.{lit<}
 use lib.Seq.{take-at, drop-at}
 use Rattle.wire.specs.Front.{front, Put}
-use Rattle.wire.proofs.Writing.{Writing, lentFrom, backFrom, rest-is, writes, finished}
+use Rattle.wire.proofs.Writing.{Writing, lentFrom, backFrom, first-written, rest-is, writes, finished}
 use Rattle.varint.specs.Varint.{width, class, shortest}
 use Rattle.profiles.specs.Code.{tpBytes}
 use Rattle.tape.specs.Tape.{randBytes}
 use Rattle.tape.proofs.DrawLaws.{randBytes-part}
 use Rattle.tls_parameters.specs.Parameters.{parameter}
 use Rattle.tls_parameters.proofs.LengthLaws.{length-parameter}
-
--- the first piece was written to the whole output
-pub first-written : (a r old : List ℕ) {new : List ℕ} {m : ℕ} → length (a ++ r) ≤ length old → Put a m old new → Writing (a ++ r) r old new m
-first-written a r old {m = m} h p =
-    record {
-      fits = h;
-      within = omega (arith, length-append a r, p .count);
-      left = drop-at a r m (sym (p .count));
-      is = p .output ∙ ap (λ (l : List ℕ). front l old) (sym (take-at a r m (sym (p .count))));
-    }
 
 -- the output while a parameter is written: the id, then the length of the value and the value, each to the part after the last
 module _ (id : ℕ) (value old : List ℕ) (h : length (parameter id value) ≤ length old) where
@@ -33,7 +23,7 @@ module _ (id : ℕ) (value old : List ℕ) (h : length (parameter id value) ≤ 
   module _ {a : ℕ} {p : List ℕ} (x : Put (shortest id) a old p) where
     pub id-written : Writing (parameter id value) (shortest (length value) ++ (value ++ [])) old p a
     unfolding parameter
-    id-written = rest-is (first-written (shortest id) (shortest (length value) ++ value) old h x) (rw append-nil)
+    id-written = rest-is (first-written (shortest id) (shortest (length value) ++ value) h x) (rw append-nil)
 
     module _ {b : ℕ} {q : List ℕ} (y : Put (shortest (length value)) b (lentFrom a p) q) where
       pub length-written : Writing (parameter id value) (value ++ []) old (backFrom a p q) (a + b)

@@ -2,7 +2,7 @@
 use Prim.Native.Nat.{ℕ, zero, suc, _+_, _-_, _≤_, _<_}
 use mathlib.Core.Path.{_≡_, refl, ap, _∙_}
 use mathlib.Core.List.{List, [], _∷_, _++_, map}
-use native.Mathlib.Nat.{not-suc-le-zero, le-of-suc-le-suc, zero-lt-suc}
+use native.Mathlib.Nat.{zero-lt-suc}
 use native.Mathlib.Omega.{arith}
 use lib.ListN.{length, take, getD, length-append}
 use lib.Seq.{take-at}
@@ -24,17 +24,6 @@ use Rattle.tls_parameters.proofs.LengthLaws.{length-resolved}
 use Rattle.tls_parameters.proofs.OrderLaws.{after-within, resolved-at, length-listed, listed-at}
 
 -- ---- places
-
-take-upto : (n m i : ℕ) → n ≤ m → take n (upto i m) ≡ upto i n
-unfolding upto
-take-upto zero m i h = refl
-take-upto (suc n) zero i h = absurd (not-suc-le-zero h)
-take-upto (suc n) (suc m) i h = ap (λ (l : List ℕ). i ∷ l) (take-upto n m (suc i) (le-of-suc-le-suc h))
-
--- the front of the code's table of places, as the code takes it
-pub first-order : (n : ℕ) → n ≤ 13 → take (n - 0) (0 ∷ 1 ∷ 2 ∷ 3 ∷ 4 ∷ 5 ∷ 6 ∷ 7 ∷ 8 ∷ 9 ∷ 10 ∷ 11 ∷ 12 ∷ []) ≡ upto 0 n
-unfolding upto
-first-order n h = let e : n - 0 ≡ n = omega arith in rw e (take-upto n 13 0 h)
 
 map-agree : {A : Type 0} (f g : ℕ → A) (l : List ℕ) → ((j : ℕ) → j < length l → f (getD l j 0) ≡ g (getD l j 0)) → map f l ≡ map g l
 map-agree f g [] h = refl

@@ -144,8 +144,6 @@ fn put_parameters(
     n
 }
 
-const FIRST_ORDER: [usize; 13] = [0, 1, 2, 3, 4, 5, 6, 7, 8, 9, 10, 11, 12];
-
 // The first `count` of the entries are the profile's parameters.
 pub fn ext_quic_tp(
     out: &mut [u8],
@@ -159,7 +157,7 @@ pub fn ext_quic_tp(
     ensures { λ r. ⌜ Puts (extQuicTp (listed entries count) (now (scid .entry)) (now (tape .entry)) at) r (now (out .entry)) (now (out .exit)) ⌝ }
 {
     let drawn = draw_places(entries, count, at);
-    let mut order = FIRST_ORDER;
+    let mut order = tape::PLACES;
     let next = tape::shuffle(&mut order[0..count], tape, drawn.next);
     let places = drawn.of;
     let n = put_parameters(&mut out[4..], entries, places, &order[0..count], scid, tape);

@@ -7,9 +7,9 @@ use lib.ListN.{length}
 use Rattle.wire.specs.Numbers.{digits}
 use Rattle.wire.specs.Vectors.{vector}
 use Rattle.wire.proofs.VectorLaws.{length-vector}
-use Rattle.wire.proofs.Writing.{filled}
+use Rattle.wire.proofs.Writing.{filled, joined, put-as}
 use Rattle.tls_extensions.specs.Extensions.{extAlpn, protocols}
-use Rattle.tls_extensions.proofs.HeadLaws.{joined, put-as, one-byte, length-list-head, list-extension-is}
+use Rattle.tls_extensions.proofs.HeadLaws.{one-byte, length-list-head, list-extension-is}
 use borrow.Author.Needs.{needs}
 use Rattle.tls_extensions.proofs.ext_alpn.Statement.{statement}
 use Rattle.tls_extensions.proofs.ext_alpn.Tie as tie

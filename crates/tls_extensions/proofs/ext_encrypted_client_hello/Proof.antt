@@ -6,11 +6,11 @@ use mathlib.Core.List.{List, [], _∷_, _++_, append-assoc}
 use lib.ListN.{length, length-append}
 use Rattle.wire.specs.Numbers.{digits}
 use Rattle.wire.specs.Vectors.{vector}
-use Rattle.wire.proofs.Writing.{filled}
+use Rattle.wire.proofs.Writing.{filled, joined, put-as}
 use Rattle.tape.specs.Tape.{randBytes, nextU64, payloadLength}
 use Rattle.tls_extensions.specs.Extensions.{extEncryptedClientHello}
 use Rattle.tls_extensions.proofs.LengthLaws.{length-random-vector, length-ech-body, length-encrypted-client-hello}
-use Rattle.tls_extensions.proofs.HeadLaws.{joined, put-as, length-head, extension-is}
+use Rattle.tls_extensions.proofs.HeadLaws.{length-head, extension-is}
 use native.Mathlib.Omega.{arith}
 use borrow.Author.Needs.{needs}
 use Rattle.tls_extensions.proofs.ext_encrypted_client_hello.Statement.{statement}

@@ -3,10 +3,10 @@ use denote.Ref.{now}
 use Prim.Native.Nat.{_+_, _≤_}
 use mathlib.Core.Path.{_≡_, sym, _∙_}
 use lib.ListN.{length}
-use Rattle.wire.proofs.Writing.{filled, headed}
+use Rattle.wire.proofs.Writing.{filled, headed, put-as}
 use Rattle.tls_extensions.specs.Extensions.{keyShares, extKeyShare}
 use Rattle.tls_extensions.proofs.LengthLaws.{length-around-shares}
-use Rattle.tls_extensions.proofs.HeadLaws.{put-as, length-list-head, list-extension-is}
+use Rattle.tls_extensions.proofs.HeadLaws.{length-list-head, list-extension-is}
 use native.Mathlib.Omega.{arith}
 use borrow.Author.Needs.{needs}
 use Rattle.tls_extensions.proofs.ext_key_share.Statement.{statement}

@@ -6,9 +6,9 @@ use mathlib.Core.List.{_∷_}
 use lib.ListN.{length}
 use Rattle.wire.specs.Vectors.{vector}
 use Rattle.wire.proofs.VectorLaws.{length-vector}
-use Rattle.wire.proofs.Writing.{filled}
+use Rattle.wire.proofs.Writing.{filled, joined, put-as}
 use Rattle.tls_extensions.specs.Extensions.{extServerName}
-use Rattle.tls_extensions.proofs.HeadLaws.{joined, put-as, length-list-head, list-extension-is}
+use Rattle.tls_extensions.proofs.HeadLaws.{length-list-head, list-extension-is}
 use native.Mathlib.Omega.{arith}
 use borrow.Author.Needs.{needs}
 use Rattle.tls_extensions.proofs.ext_server_name.Statement.{statement}

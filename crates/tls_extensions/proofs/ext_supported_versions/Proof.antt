@@ -4,9 +4,9 @@ use Prim.Native.Nat.{_+_, _*_}
 use lib.ListN.{length}
 use Rattle.wire.specs.Vectors.{words}
 use Rattle.wire.proofs.VectorLaws.{length-words}
-use Rattle.wire.proofs.Writing.{filled}
+use Rattle.wire.proofs.Writing.{filled, joined, put-as}
 use Rattle.tls_extensions.specs.Extensions.{extSupportedVersions}
-use Rattle.tls_extensions.proofs.HeadLaws.{joined, put-as, one-byte, length-head, list-extension-is}
+use Rattle.tls_extensions.proofs.HeadLaws.{one-byte, length-head, list-extension-is}
 use native.Mathlib.Omega.{arith}
 use borrow.Author.Needs.{needs}
 use Rattle.tls_extensions.proofs.ext_supported_versions.Statement.{statement}

@@ -4,9 +4,9 @@ use Prim.Native.Nat.{_*_}
 use lib.ListN.{length}
 use Rattle.wire.specs.Vectors.{words}
 use Rattle.wire.proofs.VectorLaws.{length-words}
-use Rattle.wire.proofs.Writing.{filled}
+use Rattle.wire.proofs.Writing.{filled, joined, put-as}
 use Rattle.tls_extensions.specs.Extensions.{extU16List}
-use Rattle.tls_extensions.proofs.HeadLaws.{joined, put-as, length-list-head, list-extension-is}
+use Rattle.tls_extensions.proofs.HeadLaws.{length-list-head, list-extension-is}
 use native.Mathlib.Omega.{arith}
 use borrow.Author.Needs.{needs}
 use Rattle.tls_extensions.proofs.ext_u16_list.Statement.{statement}

@@ -1,6 +1,6 @@
 -- The head, and six bytes to the part after it. Assumes nothing.
-use Rattle.wire.proofs.Writing.{filled}
-use Rattle.tls_extensions.proofs.HeadLaws.{joined, length-head}
+use Rattle.wire.proofs.Writing.{filled, joined}
+use Rattle.tls_extensions.proofs.HeadLaws.{length-head}
 use borrow.Author.Needs.{needs}
 use Rattle.tls_extensions.proofs.put_ech_head.Statement.{statement}
 use Rattle.tls_extensions.proofs.put_ech_head.Tie as tie

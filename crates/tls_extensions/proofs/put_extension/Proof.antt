@@ -1,8 +1,8 @@
 -- The head, and the body to the part after it. Assumes nothing.
 use denote.Ref.{now}
 use lib.ListN.{length}
-use Rattle.wire.proofs.Writing.{filled}
-use Rattle.tls_extensions.proofs.HeadLaws.{joined, put-as, length-head, extension-is}
+use Rattle.wire.proofs.Writing.{filled, joined, put-as}
+use Rattle.tls_extensions.proofs.HeadLaws.{length-head, extension-is}
 use borrow.Author.Needs.{needs}
 use Rattle.tls_extensions.proofs.put_extension.Statement.{statement}
 use Rattle.tls_extensions.proofs.put_extension.Tie as tie

@@ -4,8 +4,7 @@ use mathlib.Core.Path.{refl}
 use lib.ListN.{length}
 use Rattle.wire.specs.Vectors.{vector}
 use Rattle.wire.proofs.NumberLaws.{length-digits}
-use Rattle.wire.proofs.Writing.{filled}
-use Rattle.tls_extensions.proofs.HeadLaws.{joined}
+use Rattle.wire.proofs.Writing.{filled, joined}
 use borrow.Author.Needs.{needs}
 use Rattle.tls_extensions.proofs.put_host_name.Statement.{statement}
 use Rattle.tls_extensions.proofs.put_host_name.Tie as tie

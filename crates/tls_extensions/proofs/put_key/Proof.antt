@@ -2,10 +2,9 @@
 use denote.Ref.{now}
 use Prim.Native.Nat.{_-_}
 use mathlib.Core.Path.{_≡_, refl}
-use Rattle.wire.proofs.Writing.{filled}
+use Rattle.wire.proofs.Writing.{filled, joined}
 use Rattle.tape.proofs.DrawLaws.{length-randBytes}
 use Rattle.tls_extensions.proofs.ShareLaws.{size-secp, draws-secp, key-secp, draws-other, key-other}
-use Rattle.tls_extensions.proofs.HeadLaws.{joined}
 use native.Mathlib.Omega.{arith}
 use borrow.Author.Needs.{needs}
 use Rattle.tls_extensions.proofs.put_key.Statement.{statement}

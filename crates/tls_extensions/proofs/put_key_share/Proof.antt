@@ -5,11 +5,10 @@ use mathlib.Core.List.{_++_, append-assoc}
 use lib.ListN.{length}
 use Rattle.wire.specs.Numbers.{digits}
 use Rattle.wire.proofs.NumberLaws.{length-digits}
-use Rattle.wire.proofs.Writing.{filled}
+use Rattle.wire.proofs.Writing.{filled, joined, put-as}
 use Rattle.profiles.specs.Sizes.{keyShareSize}
 use Rattle.tls_extensions.specs.Extensions.{keyOf, keyShare}
 use Rattle.tls_extensions.proofs.LengthLaws.{length-key-of}
-use Rattle.tls_extensions.proofs.HeadLaws.{joined, put-as}
 use borrow.Author.Needs.{needs}
 use Rattle.tls_extensions.proofs.put_key_share.Statement.{statement}
 use Rattle.tls_extensions.proofs.put_key_share.Tie as tie

@@ -1,8 +1,8 @@
 -- The head of the extension, and the list's length to the part after it. Assumes nothing.
 use Prim.Native.Nat.{_+_}
 use Rattle.wire.proofs.NumberLaws.{length-digits}
-use Rattle.wire.proofs.Writing.{filled}
-use Rattle.tls_extensions.proofs.HeadLaws.{joined, length-head}
+use Rattle.wire.proofs.Writing.{filled, joined}
+use Rattle.tls_extensions.proofs.HeadLaws.{length-head}
 use borrow.Author.Needs.{needs}
 use Rattle.tls_extensions.proofs.put_list_head.Statement.{statement}
 use Rattle.tls_extensions.proofs.put_list_head.Tie as tie

@@ -2,9 +2,8 @@
 use denote.Ref.{now}
 use Rattle.wire.specs.Vectors.{vector}
 use Rattle.wire.proofs.NumberLaws.{length-digits}
-use Rattle.wire.proofs.Writing.{filled}
+use Rattle.wire.proofs.Writing.{filled, joined}
 use Rattle.tape.proofs.DrawLaws.{length-randBytes}
-use Rattle.tls_extensions.proofs.HeadLaws.{joined}
 use borrow.Author.Needs.{needs}
 use Rattle.tls_extensions.proofs.put_random_vector.Statement.{statement}
 use Rattle.tls_extensions.proofs.put_random_vector.Tie as tie

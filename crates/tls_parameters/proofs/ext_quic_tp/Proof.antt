@@ -8,11 +8,11 @@ use Rattle.wire.specs.Front.{Put}
 use Rattle.wire.proofs.ListLaws.{length-part-to-end}
 use Rattle.wire.proofs.Writing.{lentFrom}
 use Rattle.profiles.specs.Profile.{Parameter}
-use Rattle.tape.proofs.ShuffleLaws.{length-upto}
+use Rattle.tape.proofs.ShuffleLaws.{first-places, length-upto}
 use Rattle.tls_parameters.specs.Parameters.{afterParameters, sentParameters, parameters, extQuicTp}
 use Rattle.tls_parameters.specs.Writing.{listed}
 use Rattle.tls_parameters.proofs.OrderLaws.{length-listed}
-use Rattle.tls_parameters.proofs.ShuffledLaws.{first-order, shuffledPlaces, shuffled-front, shuffled-long, picked-sent, parameters-room, draws-there, shuffle-there, body-fits, body-small, extension-written}
+use Rattle.tls_parameters.proofs.ShuffledLaws.{shuffledPlaces, shuffled-front, shuffled-long, picked-sent, parameters-room, draws-there, shuffle-there, body-fits, body-small, extension-written}
 use native.Mathlib.Omega.{arith}
 use borrow.Author.Needs.{needs}
 use Rattle.tls_parameters.proofs.ext_quic_tp.Statement.{statement}
@@ -48,7 +48,7 @@ order c =
     let pre = c .before .before .before .before .before .before .pre in
     let draw-places = c .before .before .draw-places in
     let shuffle = c .shuffle in
-    rw (first-order (args .count) (pre .0), draw-places .ensures .0) at (shuffle .ensures .1)
+    rw (first-places (args .count) (omega (arith, pre .0)), draw-places .ensures .0) at (shuffle .ensures .1)
 
 body : (c : tie.After-put-parameters)
     → let start = c .before .before .before .before .before .before .before .before .before .before .before .before in
@@ -83,7 +83,7 @@ shuffle-requires c κs =
     let pre = c .before .before .before .before .before .pre in
     let start = c .before .before .before .before .before in
     let draw-places = c .before .draw-places in
-    rw (first-order (args .count) (pre .0), length-upto 0 (args .count), draw-places .ensures .0)
+    rw (first-places (args .count) (omega (arith, pre .0)), length-upto 0 (args .count), draw-places .ensures .0)
     (omega (arith, pre .0), shuffle-there (params start) (now (args .scid)) (now (args .tape)) (args .at) (pre .3) (long start))
 
 sub-put-parameters : tie.Need-sub-put-parameters
@@ -151,7 +151,7 @@ returns c =
     let put-parameters = c .before .before .before .before .before .before .put-parameters in
     let after-put-parameters = c .before .before .before .before .before .before in
     let put-head = c .before .before .put-head in
-    let count = rw (first-order (args .count) (pre .0), length-upto 0 (args .count), draw-places .ensures .0) at (shuffle .ensures .0) in
+    let count = rw (first-places (args .count) (omega (arith, pre .0)), length-upto 0 (args .count), draw-places .ensures .0) at (shuffle .ensures .0) in
     record {
       put = extension-written 0x0039 (sent start) (now (args .out)) (put-parameters .last .0) (fits start) (body after-put-parameters) (put-head .ensures);
       next = count ∙ rw (long start);
