@@ -1,0 +1,10 @@
+pub mod Extents
+pub mod ExtentLaws
+pub mod Sizes
+pub mod Table
+pub mod Sent
+pub mod Results
+pub mod BuildLaws
+pub mod OrderLaws
+pub mod HelloLaws
+pub mod MakeLaws

@@ -1,0 +1,3 @@
+pub mod Hello
+pub mod Make
+pub mod Writing

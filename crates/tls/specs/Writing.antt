@@ -1,0 +1,67 @@
+-- What the private writers of the maker ask for.
+use Prim.Native.Nat.{ℕ, _+_, _*_, _≤_, _<_}
+use mathlib.Core.Path.{_≡_}
+use mathlib.Core.Bool.{Bool, cond}
+use mathlib.Core.List.{List, [], map}
+use lib.ListN.{length, getD}
+use Rattle.wire.specs.Answer.{Answer, result, refused}
+use Rattle.wire.specs.Vectors.{vector}
+use Rattle.profiles.specs.Profile as value
+use Rattle.profiles.specs.Code.{profileOf, Sound}
+use Rattle.profiles.specs.declared.Profile.{Profile}
+use Rattle.tape.specs.Part.{Part, undrawn, wrapped, Room}
+use Rattle.tls_extensions.specs.Extensions.{extApplicationSettings, extEncryptedClientHello}
+use Rattle.tls.specs.Hello.{buildExtension, buildExtensions, block, body, hello}
+
+-- 0 where every question is answered "yes", else the number of the first "no"
+abbrev pub numberOf : {A : Type 0} → Answer A → ℕ
+numberOf (result a) = 0
+numberOf (refused n) = n
+
+-- two extensions are written only where the profile says so
+abbrev pub settingsIf : Bool → List ℕ
+settingsIf included = cond included extApplicationSettings []
+
+abbrev pub echIf : Bool → List ℕ → ℕ → Part
+echIf enabled tape at = cond enabled (extEncryptedClientHello tape at) (undrawn [] at)
+
+-- the types at the places that an order lists
+unfoldable pub typesAt : List ℕ → List ℕ → List ℕ
+typesAt types order = map (λ k. getD types k 0) order
+
+-- one extension
+pub record ExtensionRoom (p : Profile) (t : ℕ) (name scid tape : List ℕ) (at room : ℕ) : Type 0 where
+  pub sound : Sound p
+  pub shortName : length name < 256
+  pub shortId : length scid < 256
+  pub has : Room (buildExtension (profileOf p) name scid tape t at) room (length tape)
+
+-- all extensions, in the order given
+pub record ExtensionsRoom (p : Profile) (order name scid tape : List ℕ) (at room : ℕ) : Type 0 where
+  pub sound : Sound p
+  pub shortName : length name < 256
+  pub shortId : length scid < 256
+  pub places : (j : ℕ) → j < length order → getD order j 0 < 15
+  pub has : Room (buildExtensions (profileOf p) name scid tape (typesAt (p .«extensions_order») order) at) room (length tape)
+
+-- the block with its length before it
+abbrev pub countedBlock : value.Profile → List ℕ → List ℕ → List ℕ → Part
+countedBlock p name scid tape = wrapped (vector 2) (block p name scid tape)
+
+pub record BlockRoom (p : Profile) (name scid tape : List ℕ) (room : ℕ) : Type 0 where
+  pub sound : Sound p
+  pub shortName : length name < 256
+  pub shortId : length scid < 256
+  pub has : Room (countedBlock (profileOf p) name scid tape) room (length tape)
+
+pub record BodyRoom (p : Profile) (name scid tape : List ℕ) (room : ℕ) : Type 0 where
+  pub sound : Sound p
+  pub shortName : length name < 256
+  pub shortId : length scid < 256
+  pub has : Room (body (profileOf p) name scid tape) room (length tape)
+
+pub record HelloRoom (p : Profile) (name scid tape : List ℕ) (room : ℕ) : Type 0 where
+  pub sound : Sound p
+  pub shortName : length name < 256
+  pub shortId : length scid < 256
+  pub has : Room (hello (profileOf p) name scid tape) room (length tape)
