@@ -3,6 +3,7 @@ use Prim.Native.Nat.{ℕ}
 use mathlib.Core.List.{List, [], _∷_, _++_}
 use Rattle.wire.specs.Answer.{Answer, result, refused}
 use Rattle.varint.specs.declared.Varint.{Varint}
+use Rattle.tls.specs.declared.Hello.{Hello}
 use Rattle.records.specs.Records.{Found, record-to, end}
 use Rattle.script.specs.Scan.{space}
 use Rattle.script.specs.Decimal.{decimalText}
@@ -22,6 +23,10 @@ valueWord = 118 ∷ 97 ∷ 108 ∷ 117 ∷ 101 ∷ space ∷ []
 -- "length "
 abbrev pub lengthWord : List ℕ
 lengthWord = 108 ∷ 101 ∷ 110 ∷ 103 ∷ 116 ∷ 104 ∷ space ∷ []
+
+-- "drawn "
+abbrev pub drawnWord : List ℕ
+drawnWord = 100 ∷ 114 ∷ 97 ∷ 119 ∷ 110 ∷ space ∷ []
 
 -- "record "
 abbrev pub recordWord : List ℕ
@@ -62,6 +67,14 @@ writeParts answer out = numberParts widthWord answer ++ bufferParts out
 abbrev pub readParts : Answer Varint → List (List ℕ)
 readParts (result x) = valueWord ∷ decimalText (x .value) ∷ (space ∷ widthWord) ∷ decimalText (x .width) ∷ []
 readParts (refused n) = refusedWord ∷ decimalText n ∷ []
+
+-- `make PROFILE NAME SCID TAPE OUT`: `length L drawn D OUT'`, or `refused N OUT'`
+abbrev pub lengthsParts : Answer Hello → List (List ℕ)
+lengthsParts (result h) = lengthWord ∷ decimalText (h .length) ∷ (space ∷ drawnWord) ∷ decimalText (h .drawn) ∷ []
+lengthsParts (refused n) = refusedWord ∷ decimalText n ∷ []
+
+abbrev pub makeParts : Answer Hello → List ℕ → List (List ℕ)
+makeParts answer out = lengthsParts answer ++ bufferParts out
 
 -- `join FRAMES OUT MARKS`: `end E OUT' MARKS'`, or `refused N OUT' MARKS'`
 abbrev pub joinParts : Answer ℕ → List ℕ → List ℕ → List (List ℕ)

@@ -1,12 +1,13 @@
 // The answer to each command of a script: a function for each, which makes the call and writes the text of what it answers. Where a
 // call hands bytes back, they are kept at the front of `last`, for the piece `_` of later lines.
 ghost use Rattle.varint.specs.Varint.{sizeOf, writeOf, afterWrite, readOf};
+ghost use Rattle.tls.specs.Make.{makeOf, madeBytes, afterMake};
 ghost use Rattle.frames.specs.Join.{join, placedOf, joinOf, outAfter, marksAfter};
 ghost use Rattle.frames.specs.Cut.{framesOf, cutOf, afterCut};
 ghost use Rattle.records.specs.Records.{recordAt, recordOf};
 ghost use lib.ListN.{length};
 ghost use Rattle.answers.specs.Said.{plainly, handing, Says, Hands};
-ghost use Rattle.answers.specs.Answers.{sizeParts, writeParts, readParts, joinParts, framesParts, splitParts, splitting};
+ghost use Rattle.answers.specs.Answers.{sizeParts, writeParts, readParts, makeParts, joinParts, framesParts, splitParts, splitting};
 use frames::cutting::Cut;
 use frames::joining::Joined;
 use records::Next;
@@ -16,6 +17,8 @@ use script::writing::put_number_and_bytes;
 use script::writing::put_number_and_two;
 use script::writing::put_text;
 use script::writing::put_two_numbers;
+use script::writing::put_two_numbers_and_bytes;
+use tls::Made;
 use varint::Got;
 use varint::Width;
 
@@ -80,6 +83,38 @@ pub fn say_read(input: &[u8], out: &mut [u8]) -> Said
             x.width as u64,
         )),
         Got::Refused(number) => Said::Refused(put_number(out, b"refused ", number), number),
+    }
+}
+
+// make PROFILE NAME SCID TAPE OUT
+pub fn say_make(
+    profile: u64,
+    name: &[u8],
+    scid: &[u8],
+    tape: &[u8],
+    buffer: &mut [u8],
+    last: &mut [u8],
+    out: &mut [u8],
+) -> Said
+    ensures { λ r. ⌜ Hands (handing (makeOf profile (now (name .entry)) (now (scid .entry)) (now (tape .entry)) (length (now (buffer .entry)))) (madeBytes profile (now (name .entry)) (now (scid .entry)) (now (tape .entry)))) (makeParts (makeOf profile (now (name .entry)) (now (scid .entry)) (now (tape .entry)) (length (now (buffer .entry)))) (afterMake profile (now (name .entry)) (now (scid .entry)) (now (tape .entry)) (now (buffer .entry)))) r (now (out .entry)) (now (out .exit)) (now (last .entry)) (now (last .exit)) ⌝ }
+{
+    match tls::making::generate_client_hello(profile, name, scid, tape, buffer) {
+        Made::Hello(hello) => {
+            let n = put_two_numbers_and_bytes(
+                out,
+                b"length ",
+                hello.length as u64,
+                b" drawn ",
+                hello.drawn as u64,
+                buffer,
+            );
+            let end = hello.length;
+            Said::Handed(n, put_text(last, &buffer[0..end]))
+        }
+        Made::Refused(number) => Said::Refused(
+            put_number_and_bytes(out, b"refused ", number, buffer),
+            number,
+        ),
     }
 }
 

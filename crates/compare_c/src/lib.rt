@@ -5,10 +5,11 @@ ghost use Rattle.wire.specs.Answer.{coded};
 ghost use Rattle.varint.specs.Varint.{sizeOf, readOf};
 ghost use Rattle.records.specs.Records.{recordAt};
 ghost use Rattle.compare_c.specs.Sums.{codedValue, codedWidth, sumOf, PutCoded};
-ghost use Rattle.compare_c.specs.Calls.{codedNext, JoinCoded, CutCoded, PartCoded};
+ghost use Rattle.compare_c.specs.Calls.{lengthOf, drawnOf, codedNext, JoinCoded, CutCoded, MakeCoded, PartCoded};
 use frames::cutting::Cut;
 use frames::joining::Joined;
 use records::Next;
+use tls::Made;
 use varint::Got;
 use varint::Width;
 
@@ -95,6 +96,40 @@ pub extern "C" fn compare_frames(c: u64, hello: &[u8], out: &mut [u8]) -> u64
     match frames::cutting::write_frames(c, hello, out) {
         Cut::Length(length) => length as u64,
         Cut::Refused(n) => 4294967296 + n,
+    }
+}
+
+// The hello's length, or 2^32 plus the number.
+#[no_mangle]
+pub extern "C" fn compare_make(
+    browser: u64,
+    name: &[u8],
+    scid: &[u8],
+    tape: &[u8],
+    out: &mut [u8],
+) -> u64
+    ensures { λ r. ⌜ MakeCoded lengthOf browser (now (name .entry)) (now (scid .entry)) (now (tape .entry)) (now (out .entry)) r (now (out .exit)) ⌝ }
+{
+    match tls::making::generate_client_hello(browser, name, scid, tape, out) {
+        Made::Hello(hello) => hello.length as u64,
+        Made::Refused(n) => 4294967296 + n,
+    }
+}
+
+// The same call's count of bytes drawn, or 2^32 plus the number.
+#[no_mangle]
+pub extern "C" fn compare_drawn(
+    browser: u64,
+    name: &[u8],
+    scid: &[u8],
+    tape: &[u8],
+    out: &mut [u8],
+) -> u64
+    ensures { λ r. ⌜ MakeCoded drawnOf browser (now (name .entry)) (now (scid .entry)) (now (tape .entry)) (now (out .entry)) r (now (out .exit)) ⌝ }
+{
+    match tls::making::generate_client_hello(browser, name, scid, tape, out) {
+        Made::Hello(hello) => hello.drawn as u64,
+        Made::Refused(n) => 4294967296 + n,
     }
 }
 

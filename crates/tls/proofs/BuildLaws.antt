@@ -36,6 +36,7 @@ use Rattle.tls.specs.Writing.{typesAt}
 
 -- what owning a profile tells of its arrays
 pub record Arrays (p : code.Profile) : Type 0 where
+  pub suites : length (p .«cipher_suites») ≡ 3
   pub types : length (p .«extensions_order») ≡ 15
   pub groups : length (p .«supported_groups») ≡ 5
   pub algorithms : length (p .«signature_algorithms») ≡ 11
@@ -50,6 +51,7 @@ pub arrays : (p : code.Profile) {vs : List Val} → Is (row the-type) p vs → A
 arrays p owned =
     let each = owned .1 .1 in
     record {
+      suites = same (p .«cipher_suites») ∙ each .0 .1 .0 .1;
       types = same (p .«extensions_order») ∙ each .1 .1 .0 .1 .0 .1;
       groups = same (p .«supported_groups») ∙ each .1 .1 .1 .1 .0 .1 .0 .1;
       algorithms = same (p .«signature_algorithms») ∙ each .1 .1 .1 .1 .1 .1 .0 .1 .0 .1;

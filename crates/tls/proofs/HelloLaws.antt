@@ -1,25 +1,23 @@
 -- The parts of a hello: the fields before the extensions, the block of extensions, the body, and the whole. Assumes nothing.
 use Prim.Native.Nat.{ℕ, suc, _+_, _-_, _*_, _≤_, _<_}
 use mathlib.Core.Path.{_≡_, refl, sym, ap, _∙_}
-use mathlib.Core.List.{List, [], _∷_, _++_, append-assoc, append-nil}
+use mathlib.Core.List.{List, [], _∷_, _++_, append-assoc}
 use native.Mathlib.Nat.{mod-eq-of-lt}
 use native.Mathlib.Omega.{arith}
-use lib.ListN.{length, take, length-append}
-use lib.Seq.{take-at, drop-at, length-take-le}
+use lib.ListN.{length, length-append}
 use Rattle.wire.specs.Front.{front, Put}
 use Rattle.wire.specs.Numbers.{digits}
 use Rattle.wire.specs.Vectors.{vector, words}
 use Rattle.wire.proofs.ListLaws.{length-part-to-end}
 use Rattle.wire.proofs.NumberLaws.{length-digits}
 use Rattle.wire.proofs.VectorLaws.{length-vector, length-words}
-use Rattle.wire.proofs.FrontLaws.{length-front, given-back}
-use Rattle.wire.proofs.Writing.{Writing, lentFrom, backFrom, rest-is, filled, next-room, writes, finished, first-written, last-written, last-room, length-back}
+use Rattle.wire.proofs.Writing.{Writing, lentFrom, backFrom, filled, writes, first-written, last-written, last-room, length-back}
 use Rattle.profiles.specs.Profile.{Profile}
 use Rattle.profiles.specs.Sizes.{sessionLength, afterOrder}
 use Rattle.profiles.specs.Code.{profileOf, Sound}
 use Rattle.profiles.specs.declared.Profile as code
 use Rattle.tape.specs.Tape.{randBytes}
-use Rattle.tape.specs.Part.{Part, wrapped, Puts}
+use Rattle.tape.specs.Part.{Puts}
 use Rattle.tape.specs.declared.Wrote.{Wrote}
 use Rattle.tape.proofs.DrawLaws.{length-randBytes}
 use Rattle.tape.proofs.PartLaws.{headed-part}

@@ -1,8 +1,8 @@
 -- The order of the extensions as places: what stands at them is the profile's list, shuffled or not. Assumes nothing.
 use Prim.Native.Nat.{ℕ, zero, suc, _+_, _-_, _*_, _≤_, _<_}
-use mathlib.Core.Path.{_≡_, refl, ap, _∙_}
+use mathlib.Core.Path.{_≡_, ap, _∙_}
 use mathlib.Core.Bool.{Bool, true, false, cond}
-use mathlib.Core.List.{List, [], _∷_, _++_, map}
+use mathlib.Core.List.{List, _++_, map}
 use native.Mathlib.Nat.{le-of-suc-le-suc}
 use native.Mathlib.Omega.{arith}
 use lib.ListN.{length, take, getD, length-append}

@@ -5,7 +5,7 @@ use mathlib.Core.Bool.{true, _&&_}
 use mathlib.Core.List.{List}
 use lib.ListN.{length, take}
 use lib.Dec.{ltb, leb}
-use Rattle.wire.specs.Answer.{result, ask}
+use Rattle.wire.specs.Answer.{result}
 use Rattle.wire.proofs.AnswerLaws.{same-result, ask-yes}
 use Rattle.wire.proofs.FrontLaws.{take-front}
 use Rattle.profiles.specs.Profile.{forBrowser}

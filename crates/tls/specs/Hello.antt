@@ -1,6 +1,6 @@
 -- `build_extension` and `generate_client_hello` of tls.rs: a hello from any profile, name, connection id and tape.
 use Prim.Native.Nat.{ℕ, _+_}
-use mathlib.Core.Bool.{Bool, cond}
+use mathlib.Core.Bool.{cond}
 use mathlib.Core.List.{List, [], _∷_, _++_}
 use lib.Dec.{eqb}
 use Rattle.wire.specs.Numbers.{digits}

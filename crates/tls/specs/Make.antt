@@ -1,11 +1,11 @@
 -- `generate_client_hello` as a call (document 01, questions 4 to 9).
 use Prim.Native.Nat.{ℕ, _≤_}
 use mathlib.Core.Path.{_≡_}
-use mathlib.Core.Bool.{Bool, true, false, _&&_}
-use mathlib.Core.List.{List, [], _∷_}
+use mathlib.Core.Bool.{Bool, _&&_}
+use mathlib.Core.List.{List}
 use lib.ListN.{length}
 use lib.Dec.{ltb, leb}
-use Rattle.wire.specs.Answer.{Answer, result, refused, ask, andThen, unlessRefused, IsNumber}
+use Rattle.wire.specs.Answer.{Answer, result, refused, ask, unlessRefused, IsNumber}
 use Rattle.wire.specs.Front.{front}
 use Rattle.profiles.specs.Profile.{Profile, forBrowser}
 use Rattle.profiles.specs.Sizes.{longest, tapeNeeded}

@@ -1,6 +1,5 @@
 -- What the private writers of the maker ask for.
-use Prim.Native.Nat.{ℕ, _+_, _*_, _≤_, _<_}
-use mathlib.Core.Path.{_≡_}
+use Prim.Native.Nat.{ℕ, _<_}
 use mathlib.Core.Bool.{Bool, cond}
 use mathlib.Core.List.{List, [], map}
 use lib.ListN.{length, getD}

@@ -1,12 +1,11 @@
 -- One parameter: its bytes while they are written, and the values that are parts of a table or of the tape. Assumes nothing.
 use Prim.Native.Nat.{ℕ, zero, suc, _+_, _-_, _≤_, _<_}
-use mathlib.Core.Path.{_≡_, refl, sym, ap, _∙_}
+use mathlib.Core.Path.{_≡_, refl, sym}
 use mathlib.Core.List.{List, [], _++_, append-nil}
 use native.Mathlib.Omega.{arith}
-use lib.ListN.{length, take, drop, length-append}
+use lib.ListN.{length, take, drop}
 use lib.Dec.{lit<}
-use lib.Seq.{take-at, drop-at}
-use Rattle.wire.specs.Front.{front, Put}
+use Rattle.wire.specs.Front.{Put}
 use Rattle.wire.proofs.Writing.{Writing, lentFrom, backFrom, first-written, rest-is, writes, finished}
 use Rattle.varint.specs.Varint.{width, class, shortest}
 use Rattle.profiles.specs.Code.{tpBytes}

@@ -1,13 +1,10 @@
 -- `ext_quic_tp` of tls.rs: the transport parameters.
-use Prim.Native.Nat.{ℕ, _+_, _≤_, _<_, _^_}
-use mathlib.Core.Path.{_≡_}
-use mathlib.Core.List.{List, [], _∷_, _++_, map}
-use lib.ListN.{length, take, getD}
+use Prim.Native.Nat.{ℕ, _+_}
+use mathlib.Core.List.{List, [], _∷_, _++_}
+use lib.ListN.{length}
 use Rattle.varint.specs.Varint.{shortest}
 use Rattle.profiles.specs.Profile.{Parameter, varint, bytes, versionInfo, scidSource, grease}
 use Rattle.profiles.specs.Sizes.{parameterDraws}
-use Rattle.profiles.specs.Code.{parameterOf}
-use Rattle.profiles.specs.declared.TpEntry.{TpEntry}
 use Rattle.tape.specs.Tape.{randBytes, nextU64, shuffle, afterShuffle, greaseId, versionInformation}
 use Rattle.tape.specs.Part.{Part}
 use Rattle.tls_extensions.specs.Extensions.{extension}

@@ -1,7 +1,7 @@
 -- What the writers of parameters ask for and promise. Parameters are written in shuffled order, each with the draws at its own place.
 use Prim.Native.Nat.{ℕ, _+_, _≤_, _<_, _^_}
 use mathlib.Core.Path.{_≡_}
-use mathlib.Core.List.{List, [], _∷_, map}
+use mathlib.Core.List.{List, map}
 use lib.ListN.{length, take, getD}
 use Rattle.profiles.specs.Profile.{Parameter, varint, bytes, versionInfo, scidSource, grease}
 use Rattle.profiles.specs.Sizes.{parameterDraws}

@@ -93,8 +93,8 @@ slice-aggregate-same-4 c = search needs
 same-requires-4 : tie.Need-same-requires-4
 same-requires-4 c κs = search needs
 
-join-requires : tie.Need-join-requires
-join-requires c κs = search needs
+make-requires : tie.Need-make-requires
+make-requires c κs = search needs
 
 same-length-6 : tie.Need-same-length-6
 same-length-6 c = search needs
@@ -111,8 +111,8 @@ slice-aggregate-same-5 c = search needs
 same-requires-5 : tie.Need-same-requires-5
 same-requires-5 c κs = search needs
 
-frames-requires : tie.Need-frames-requires
-frames-requires c κs = search needs
+join-requires : tie.Need-join-requires
+join-requires c κs = search needs
 
 same-length-8 : tie.Need-same-length-8
 same-length-8 c = search needs
@@ -129,8 +129,8 @@ slice-aggregate-same-6 c = search needs
 same-requires-6 : tie.Need-same-requires-6
 same-requires-6 c κs = search needs
 
-split-requires : tie.Need-split-requires
-split-requires c κs = search needs
+frames-requires : tie.Need-frames-requires
+frames-requires c κs = search needs
 
 same-length-10 : tie.Need-same-length-10
 same-length-10 c = search needs
@@ -141,8 +141,26 @@ same-length-11 c = search needs
 returns-6 : tie.Need-returns-6
 returns-6 c = search needs
 
+slice-aggregate-same-7 : tie.Need-slice-aggregate-same-7
+slice-aggregate-same-7 c = search needs
+
+same-requires-7 : tie.Need-same-requires-7
+same-requires-7 c κs = search needs
+
+split-requires : tie.Need-split-requires
+split-requires c κs = search needs
+
+same-length-12 : tie.Need-same-length-12
+same-length-12 c = search needs
+
+same-length-13 : tie.Need-same-length-13
+same-length-13 c = search needs
+
 returns-7 : tie.Need-returns-7
 returns-7 c = search needs
+
+returns-8 : tie.Need-returns-8
+returns-8 c = search needs
 
 pub command-spec : {M : Type 1} → statement M
 command-spec =
@@ -174,20 +192,26 @@ command-spec =
     returns-3
     slice-aggregate-same-4
     same-requires-4
-    join-requires
+    make-requires
     same-length-6
     same-length-7
     returns-4
     slice-aggregate-same-5
     same-requires-5
-    frames-requires
+    join-requires
     same-length-8
     same-length-9
     returns-5
     slice-aggregate-same-6
     same-requires-6
-    split-requires
+    frames-requires
     same-length-10
     same-length-11
     returns-6
-    returns-7)
+    slice-aggregate-same-7
+    same-requires-7
+    split-requires
+    same-length-12
+    same-length-13
+    returns-7
+    returns-8)

@@ -1,16 +1,17 @@
 -- The places are the order of the profile; the extensions stand after the place of their length, and then the length is written. Assumes nothing.
 use Prim.Native.Nat.{_+_, _-_}
 use native.Mathlib.Nat.{le-trans}
-use mathlib.Core.Path.{_≡_, sym, ap, _∙_}
+use mathlib.Core.Path.{_≡_, ap}
 use mathlib.Core.List.{_++_}
 use denote.Ref.{now}
 use borrow.Rule.Slice.PartMut.{postOf}
-use lib.ListN.{length, take, length-map}
+use lib.ListN.{length, take}
 use Rattle.profiles.specs.Sizes.{sessionLength}
 use Rattle.profiles.specs.Code.{profileOf}
 use Rattle.tape.proofs.ShuffleLaws.{firstPlaces}
 use Rattle.tls.proofs.OrderLaws.{Ordered, order-room, count-within, ordered}
 use Rattle.tls.proofs.Extents.{extensions-rise}
+use Rattle.tls.proofs.BuildLaws.{arrays}
 use Rattle.tls.proofs.HelloLaws.{block-rises, block-long, extensions-room, block-small, block-back, block-put}
 use native.Mathlib.Omega.{arith}
 use borrow.Author.Needs.{needs}
@@ -19,9 +20,7 @@ use Rattle.tls.proofs.making.put_block.Tie as tie
 
 -- the profile's array of types has 15 places
 fifteen : (c : tie.Start) → length (c .args .profile .«extensions_order») ≡ 15
-fifteen c =
-    let types = c .args .profile .«extensions_order» in
-    sym (length-map types (λ v. v)) ∙ c .good .1 .0 .1 .1 .1 .1 .0 .1 .0 .1
+fifteen c = (arrays (c .args .profile) (c .good .1 .0)) .types
 
 drawn : (c : tie.After-session-length) → 32 + (c .session-length .result) ≡ 32 + sessionLength (profileOf ((c .before .before .before .before .before .args .profile)))
 drawn c = ap (λ n. 32 + n) (c .session-length .ensures .0)

@@ -1,16 +1,16 @@
 -- Version and random, session id, suites, each to the part after the last. Assumes nothing.
 use Prim.Native.Nat.{_+_, _≤_}
 use native.Mathlib.Nat.{sub-zero}
-use mathlib.Core.Path.{_≡_, sym, _∙_}
 use mathlib.Core.List.{_++_}
 use denote.Ref.{now}
-use lib.ListN.{length, length-map}
+use lib.ListN.{length}
 use lib.Seq.{length-take-le}
 use Rattle.wire.specs.Vectors.{vector}
 use Rattle.wire.proofs.Writing.{Writing, backFrom, place-within, next-room, last-room, last-written}
 use Rattle.profiles.specs.Code.{profileOf}
 use Rattle.tape.specs.Tape.{randBytes}
 use Rattle.tls.specs.Hello.{fields}
+use Rattle.tls.proofs.BuildLaws.{arrays}
 use Rattle.tls.proofs.HelloLaws.{closing, length-session, length-closing, length-fields, random-stands, session-stands}
 use native.Mathlib.Omega.{arith}
 use borrow.Author.Needs.{needs}
@@ -19,10 +19,7 @@ use Rattle.tls.proofs.making.put_fields.Tie as tie
 
 -- the profile's count is within its array of 3
 few : (c : tie.Start) → c .args .profile .«suite_count» ≤ length (c .args .profile .«cipher_suites»)
-few c =
-    let suites = c .args .profile .«cipher_suites» in
-    let three : length suites ≡ 3 = sym (length-map suites (λ v. v)) ∙ c .good .1 .0 .1 .1 .0 .1 .0 .1 in
-    omega (arith, c .pre .0 .suites)
+few c = omega (arith, c .pre .0 .suites, (arrays (c .args .profile) (c .good .1 .0)) .suites)
 
 three : (c : tie.Start) → length ((profileOf (c .args .profile)) .cipherSuites) ≤ 3
 three c = omega (arith, c .pre .0 .suites, length-take-le (c .args .profile .«suite_count») (c .args .profile .«cipher_suites») (few c))
