@@ -4,6 +4,7 @@
 mod captures;
 mod cut;
 mod join;
+mod make;
 mod noise {
     pub(crate) mod quic;
 }
@@ -50,14 +51,16 @@ fn compare_all(captures: &[Capture]) -> ExitCode {
     join::compare(&mut tally, captures);
     cut::compare(&mut tally);
     split::compare(&mut tally);
+    make::compare(&mut tally);
     timing::print_how();
     varint::time(&mut tally);
     join::time(&mut tally, captures);
+    make::time(&mut tally);
     tally.verdict()
 }
 
 fn samples() -> Vec<sample::Section> {
-    [varint::sample(), join::sample(), split::sample()]
+    [varint::sample(), join::sample(), split::sample(), make::sample()]
         .into_iter()
         .flatten()
         .collect()

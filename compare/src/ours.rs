@@ -25,6 +25,28 @@ mod archive {
             out: *mut u8,
             out_len: usize,
         ) -> u64;
+        pub(super) fn compare_make(
+            browser: u64,
+            name: *const u8,
+            name_len: usize,
+            scid: *const u8,
+            scid_len: usize,
+            tape: *const u8,
+            tape_len: usize,
+            out: *mut u8,
+            out_len: usize,
+        ) -> u64;
+        pub(super) fn compare_drawn(
+            browser: u64,
+            name: *const u8,
+            name_len: usize,
+            scid: *const u8,
+            scid_len: usize,
+            tape: *const u8,
+            tape_len: usize,
+            out: *mut u8,
+            out_len: usize,
+        ) -> u64;
         pub(super) fn compare_next(blob: *const u8, blob_len: usize, place: usize) -> u64;
         pub(super) fn compare_record(
             blob: *const u8,
@@ -102,6 +124,44 @@ pub(crate) fn frames(c: u64, hello: &[u8], out: &mut [u8]) -> Told {
     // SAFETY: each pointer and length are those of one slice; the call reads the first, and the other is lent to nobody else.
     let number = unsafe {
         archive::compare_frames(c, hello.as_ptr(), hello.len(), out.as_mut_ptr(), out.len())
+    };
+    told(number, REFUSED)
+}
+
+/// The length of the hello that is made.
+pub(crate) fn make(browser: u64, name: &[u8], scid: &[u8], tape: &[u8], out: &mut [u8]) -> Told {
+    // SAFETY: each pointer and length are those of one slice; the call reads three, and the last is lent to nobody else.
+    let number = unsafe {
+        archive::compare_make(
+            browser,
+            name.as_ptr(),
+            name.len(),
+            scid.as_ptr(),
+            scid.len(),
+            tape.as_ptr(),
+            tape.len(),
+            out.as_mut_ptr(),
+            out.len(),
+        )
+    };
+    told(number, REFUSED)
+}
+
+/// How many bytes of the tape are drawn for it.
+pub(crate) fn drawn(browser: u64, name: &[u8], scid: &[u8], tape: &[u8], out: &mut [u8]) -> Told {
+    // SAFETY: as in `make`.
+    let number = unsafe {
+        archive::compare_drawn(
+            browser,
+            name.as_ptr(),
+            name.len(),
+            scid.as_ptr(),
+            scid.len(),
+            tape.as_ptr(),
+            tape.len(),
+            out.as_mut_ptr(),
+            out.len(),
+        )
     };
     told(number, REFUSED)
 }
