@@ -4,6 +4,19 @@
 pub(crate) type Told = Result<u64, u64>;
 
 mod archive {
+    /// Browser, name, connection id, tape and output, each slice with its length after it.
+    pub(super) type Make = unsafe extern "C" fn(
+        u64,
+        *const u8,
+        usize,
+        *const u8,
+        usize,
+        *const u8,
+        usize,
+        *mut u8,
+        usize,
+    ) -> u64;
+
     extern "C" {
         pub(super) fn compare_varint_size(value: u64) -> u64;
         pub(super) fn compare_varint_write(value: u64, out: *mut u8, out_len: usize) -> u64;
@@ -130,28 +143,20 @@ pub(crate) fn frames(c: u64, hello: &[u8], out: &mut [u8]) -> Told {
 
 /// The length of the hello that is made.
 pub(crate) fn make(browser: u64, name: &[u8], scid: &[u8], tape: &[u8], out: &mut [u8]) -> Told {
-    // SAFETY: each pointer and length are those of one slice; the call reads three, and the last is lent to nobody else.
-    let number = unsafe {
-        archive::compare_make(
-            browser,
-            name.as_ptr(),
-            name.len(),
-            scid.as_ptr(),
-            scid.len(),
-            tape.as_ptr(),
-            tape.len(),
-            out.as_mut_ptr(),
-            out.len(),
-        )
-    };
-    told(number, REFUSED)
+    make_by(archive::compare_make, browser, [name, scid, tape], out)
 }
 
 /// How many bytes of the tape are drawn for it.
 pub(crate) fn drawn(browser: u64, name: &[u8], scid: &[u8], tape: &[u8], out: &mut [u8]) -> Told {
-    // SAFETY: as in `make`.
+    make_by(archive::compare_drawn, browser, [name, scid, tape], out)
+}
+
+#[inline]
+fn make_by(call: archive::Make, browser: u64, lent: [&[u8]; 3], out: &mut [u8]) -> Told {
+    let [name, scid, tape] = lent;
+    // SAFETY: each pointer and length are those of one slice; the call reads three, and the last is lent to nobody else.
     let number = unsafe {
-        archive::compare_drawn(
+        call(
             browser,
             name.as_ptr(),
             name.len(),

@@ -1,6 +1,7 @@
 // Browser profiles (profiles.rs): 0 is Chrome, 1 Firefox, 2 curl. The lists are constant tables, indexed by profile; a row that is
 // shorter than its table ends in zeros, and a count says where. Document 01, "Profiles and maker".
 pub mod ext;
+pub mod named_groups;
 pub mod tables;
 
 // 0x0017 is extended_master_secret among extension types and secp256r1 among groups: two types, so that the two never pass for one
@@ -8,11 +9,6 @@ pub mod tables;
 pub struct ExtType(pub u16);
 
 pub struct Group(pub u16);
-
-// X25519MLKEM768, secp256r1.
-pub const PQ_HYBRID_GROUP: u16 = 0x11ec;
-
-pub const SECP256R1: u16 = 0x0017;
 
 // A QUIC transport parameter. The value of `Bytes(id, n)` is the first n bytes of the table of bytes.
 pub enum TpEntry {

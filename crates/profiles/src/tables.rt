@@ -1,4 +1,4 @@
-// The tables, and a profile's row of each.
+// The tables, and a profile's row of each: Chrome, Firefox, curl.
 ghost use mathlib.Core.Path.{_≡_};
 ghost use Prim.Native.Nat.{_<_};
 ghost use Rattle.profiles.specs.Code.{tpBytes, Chosen, Entries};
@@ -20,6 +20,11 @@ use crate::ext::SIGNATURE_ALGORITHMS;
 use crate::ext::STATUS_REQUEST;
 use crate::ext::SUPPORTED_GROUPS;
 use crate::ext::SUPPORTED_VERSIONS;
+use crate::named_groups::PQ_HYBRID_GROUP;
+use crate::named_groups::SECP256R1;
+use crate::named_groups::SECP384R1;
+use crate::named_groups::SECP521R1;
+use crate::named_groups::X25519;
 
 const CIPHER_SUITES: [[u16; 3]; 3] = [
     [0x1301, 0x1302, 0x1303],
@@ -84,9 +89,9 @@ const EXTENSIONS_ORDER: [[u16; 15]; 3] = [
 const EXTENSION_COUNTS: [usize; 3] = [11, 15, 10];
 
 const GROUPS: [[u16; 5]; 3] = [
-    [0x11ec, 0x001d, 0x0017, 0x0018, 0],
-    [0x11ec, 0x001d, 0x0017, 0x0018, 0x0019],
-    [0x001d, 0x0017, 0x0018, 0, 0],
+    [PQ_HYBRID_GROUP, X25519, SECP256R1, SECP384R1, 0],
+    [PQ_HYBRID_GROUP, X25519, SECP256R1, SECP384R1, SECP521R1],
+    [X25519, SECP256R1, SECP384R1, 0, 0],
 ];
 
 const GROUP_COUNTS: [usize; 3] = [4, 5, 3];
@@ -138,9 +143,9 @@ const ALGORITHM_COUNTS: [usize; 3] = [9, 11, 6];
 const VERSIONS: [[u16; 1]; 3] = [[0x0304], [0x0304], [0x0304]];
 
 const SHARES: [[u16; 3]; 3] = [
-    [0x11ec, 0x001d, 0],
-    [0x11ec, 0x001d, 0x0017],
-    [0x001d, 0, 0],
+    [PQ_HYBRID_GROUP, X25519, 0],
+    [PQ_HYBRID_GROUP, X25519, SECP256R1],
+    [X25519, 0, 0],
 ];
 
 const SHARE_COUNTS: [usize; 3] = [2, 3, 1];

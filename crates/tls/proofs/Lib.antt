@@ -8,3 +8,4 @@ pub mod BuildLaws
 pub mod OrderLaws
 pub mod HelloLaws
 pub mod MakeLaws
+pub mod Samples

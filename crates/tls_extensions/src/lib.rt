@@ -13,9 +13,9 @@ ghost use Rattle.tape.specs.Part.{Room, Puts};
 ghost use Rattle.tls_extensions.specs.Extensions.{extension, extServerName, extAlpn, extU16List, extSupportedVersions, extPskKeModes, extDelegatedCredentials, keyOf, keyShare, keyShares, extKeyShare, extApplicationSettings, extEncryptedClientHello, extRecordSizeLimit, extRenegInfo, extStatusRequest, extExtendedMasterSecret, extCompressCert};
 use profiles::ExtType;
 use profiles::Group;
-use profiles::PQ_HYBRID_GROUP;
-use profiles::SECP256R1;
 use profiles::ext;
+use profiles::named_groups::PQ_HYBRID_GROUP;
+use profiles::named_groups::SECP256R1;
 use tape::Wrote;
 
 // Type and length of the body.

@@ -1,0 +1,54 @@
+-- Closed inputs that rule out a wrong maker: one that draws for the extensions in profile order, and then sends them in the order
+-- drawn. Assumes nothing.
+use Prim.Native.Nat.{ℕ, _+_}
+use mathlib.Core.Path.{_≡_, refl}
+use mathlib.Core.Bool.{true, false}
+use mathlib.Core.List.{List, [], _∷_, _++_, flatten}
+use lib.ListN.{getD, replicate}
+use Rattle.wire.specs.Numbers.{digits}
+use Rattle.wire.specs.Vectors.{vector}
+use Rattle.wire.specs.Sums.{swapped}
+use Rattle.profiles.specs.Profile.{Profile}
+use Rattle.profiles.specs.Sizes.{sessionLength, afterOrder, keyShareSize, keyDraws}
+use Rattle.tape.specs.Tape.{randBytes, lowestFirst, nextU64, remainders, swaps, shuffle, payloadLength}
+use Rattle.tls_extensions.specs.Extensions.{extension, keyOf, keyShare, keyShares, extKeyShare, extEncryptedClientHello}
+use Rattle.tls.specs.Hello.{buildExtension, buildExtensions, order, block}
+use Rattle.tls.proofs.Sent.{pieces}
+
+-- key_share and ECH, shuffled
+unfoldable pub two : Profile
+two = record {
+  cipherSuites = 0x1301 ∷ [];
+  extensionsOrder = 0x0033 ∷ 0xfe0d ∷ [];
+  supportedGroups = 0x001d ∷ [];
+  signatureAlgorithms = 0x0403 ∷ [];
+  supportedVersions = 0x0304 ∷ [];
+  keyShareGroups = 0x001d ∷ [];
+  alpn = [];
+  quicTp = [];
+  firefox = false;
+  includeUnknown17613 = false;
+  useEmptySessionId = true;
+  enableEch = true;
+  randomizeExtensionsOrder = true;
+}
+
+-- 32 random bytes, a draw of 0 that puts ECH first, and then a byte 7 among zeros
+unfoldable pub tape : List ℕ
+tape = replicate 40 0 ++ (7 ∷ replicate 240 0)
+
+-- the block of that wrong maker
+unfoldable pub inProfileOrder : List ℕ
+inProfileOrder = flatten (shuffle [] (pieces two [] [] tape (two .extensionsOrder) (afterOrder two)) tape (32 + sessionLength two))
+
+-- the byte after ECH's type, length and suite is its config id: the low byte of the first draw that it makes
+pub config-id-drawn-first : getD ((block two [] [] tape) .bytes) 9 0 ≡ 7
+unfolding
+    two tape block order shuffle swaps remainders swapped nextU64 lowestFirst randBytes buildExtensions buildExtension extEncryptedClientHello extension vector digits payloadLength
+config-id-drawn-first = refl
+
+-- in profile order the key of key_share has it
+pub config-id-drawn-late : getD inProfileOrder 9 0 ≡ 0
+unfolding
+    inProfileOrder two tape flatten pieces shuffle swaps remainders swapped nextU64 lowestFirst randBytes buildExtension extKeyShare keyShares keyShare keyOf keyShareSize keyDraws extEncryptedClientHello extension vector digits payloadLength
+config-id-drawn-late = refl
