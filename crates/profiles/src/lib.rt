@@ -25,8 +25,8 @@ pub enum TpEntry {
 }
 
 // What a hello is made of. Each list is an array with its count, and the one protocol is its name. The transport parameters are a row
-// of their table, as no struct can hold an array of enums. The last three are sums over the profile: the tape that it needs, the length
-// of its longest hello with neither name nor connection id, and how often the connection id stands in it.
+// of their table, as a field that is an array of enums would have to be proved by hand. The last three are sums over the profile: the
+// tape that it needs, the length of its longest hello with neither name nor connection id, and how often the connection id stands in it.
 pub struct Profile {
     pub cipher_suites: [u16; 3],
     pub suite_count: usize,
