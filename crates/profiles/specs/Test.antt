@@ -45,7 +45,7 @@ unfoldable pub sent : Profile → ℕ → Bool
 sent p t = cond (eqb t 0x44cd) (p .includeUnknown17613) (cond (eqb t 0xfe0d) (p .enableEch) (member t known))
 
 -- types once each and all sent, server_name among them; lists within the report's counts; protocols of 1 to 255 bytes; parameter ids
--- once each; every hello below 2^14 bytes, so that a joiner takes it and each length has its place
+-- once each; every hello of at most 2^14 bytes, so that the joiner takes it and each length has its place
 unfoldable pub passes : Profile → Bool
 passes p =
     wordList (p .extensionsOrder) && (distinct (p .extensionsOrder) && (all (sent p) (p .extensionsOrder) && (member 0x0000 (p .extensionsOrder)

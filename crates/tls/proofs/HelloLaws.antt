@@ -109,16 +109,18 @@ module _ (p : code.Profile) (name scid tape : List ℕ) where
     extensions-room old r =
         let count : length (vector 2 extensions) ≡ 2 + length extensions = length-vector 2 extensions in
         record {
-          sound = r .sound;
-          shortName = r .shortName;
-          shortId = r .shortId;
           places = o .below;
-          has = rw block-is
-              record {
-                fits = omega (arith, r .has .fits, length-part-to-end old 2);
-                small = omega (arith, r .has .small);
-                there = r .has .there;
-              };
+          part = record {
+            sound = r .sound;
+            shortName = r .shortName;
+            shortId = r .shortId;
+            has = rw block-is
+                record {
+                  fits = omega (arith, r .has .fits, length-part-to-end old 2);
+                  small = omega (arith, r .has .small);
+                  there = r .has .there;
+                };
+          };
         }
 
     module _ (old : List ℕ) {part : List ℕ} {w : Wrote} (r : BlockRoom p name scid tape (length old))

@@ -28,39 +28,34 @@ echIf enabled tape at = cond enabled (extEncryptedClientHello tape at) (undrawn 
 unfoldable pub typesAt : List ℕ → List ℕ → List ℕ
 typesAt types order = map (λ k. getD types k 0) order
 
--- one extension
-pub record ExtensionRoom (p : Profile) (t : ℕ) (name scid tape : List ℕ) (at room : ℕ) : Type 0 where
+-- a part of the hello: the profile is sound, name and connection id are short, and there is room for it
+pub record PartRoom (p : Profile) (name scid tape : List ℕ) (a : Part) (room : ℕ) : Type 0 where
   pub sound : Sound p
   pub shortName : length name < 256
   pub shortId : length scid < 256
-  pub has : Room (buildExtension (profileOf p) name scid tape t at) room (length tape)
+  pub has : Room a room (length tape)
+
+-- one extension
+abbrev pub ExtensionRoom : Profile → ℕ → List ℕ → List ℕ → List ℕ → ℕ → ℕ → Type 0
+ExtensionRoom p t name scid tape at room = PartRoom p name scid tape (buildExtension (profileOf p) name scid tape t at) room
 
 -- all extensions, in the order given
+abbrev pub extensionsAt : Profile → List ℕ → List ℕ → List ℕ → List ℕ → ℕ → Part
+extensionsAt p order name scid tape at = buildExtensions (profileOf p) name scid tape (typesAt (p .«extensions_order») order) at
+
 pub record ExtensionsRoom (p : Profile) (order name scid tape : List ℕ) (at room : ℕ) : Type 0 where
-  pub sound : Sound p
-  pub shortName : length name < 256
-  pub shortId : length scid < 256
   pub places : (j : ℕ) → j < length order → getD order j 0 < 15
-  pub has : Room (buildExtensions (profileOf p) name scid tape (typesAt (p .«extensions_order») order) at) room (length tape)
+  pub part : PartRoom p name scid tape (extensionsAt p order name scid tape at) room
 
 -- the block with its length before it
 abbrev pub countedBlock : value.Profile → List ℕ → List ℕ → List ℕ → Part
 countedBlock p name scid tape = wrapped (vector 2) (block p name scid tape)
 
-pub record BlockRoom (p : Profile) (name scid tape : List ℕ) (room : ℕ) : Type 0 where
-  pub sound : Sound p
-  pub shortName : length name < 256
-  pub shortId : length scid < 256
-  pub has : Room (countedBlock (profileOf p) name scid tape) room (length tape)
+abbrev pub BlockRoom : Profile → List ℕ → List ℕ → List ℕ → ℕ → Type 0
+BlockRoom p name scid tape room = PartRoom p name scid tape (countedBlock (profileOf p) name scid tape) room
 
-pub record BodyRoom (p : Profile) (name scid tape : List ℕ) (room : ℕ) : Type 0 where
-  pub sound : Sound p
-  pub shortName : length name < 256
-  pub shortId : length scid < 256
-  pub has : Room (body (profileOf p) name scid tape) room (length tape)
+abbrev pub BodyRoom : Profile → List ℕ → List ℕ → List ℕ → ℕ → Type 0
+BodyRoom p name scid tape room = PartRoom p name scid tape (body (profileOf p) name scid tape) room
 
-pub record HelloRoom (p : Profile) (name scid tape : List ℕ) (room : ℕ) : Type 0 where
-  pub sound : Sound p
-  pub shortName : length name < 256
-  pub shortId : length scid < 256
-  pub has : Room (hello (profileOf p) name scid tape) room (length tape)
+abbrev pub HelloRoom : Profile → List ℕ → List ℕ → List ℕ → ℕ → Type 0
+HelloRoom p name scid tape room = PartRoom p name scid tape (hello (profileOf p) name scid tape) room

@@ -8,8 +8,8 @@ ghost use Rattle.profiles.specs.Code.{profileOf, Sound};
 ghost use Rattle.tape.specs.Part.{Room, Puts};
 ghost use Rattle.tls_extensions.specs.Extensions.{extAlpn, extU16List, extSupportedVersions, extKeyShare};
 ghost use Rattle.tls_parameters.specs.Parameters.{extQuicTp};
-ghost use Rattle.tls.specs.Hello.{buildExtension, buildExtensions};
-ghost use Rattle.tls.specs.Writing.{settingsIf, echIf, typesAt, ExtensionRoom, ExtensionsRoom};
+ghost use Rattle.tls.specs.Hello.{buildExtension};
+ghost use Rattle.tls.specs.Writing.{settingsIf, echIf, extensionsAt, ExtensionRoom, ExtensionsRoom};
 use profiles::ExtType;
 use profiles::Profile;
 use profiles::ext;
@@ -154,7 +154,7 @@ pub fn build_extensions(
     at: usize,
 ) -> Wrote
     requires { ⌜ ExtensionsRoom profile (now order) (now name) (now scid) (now tape) at (length (now out)) ⌝ }
-    ensures { λ r. ⌜ Puts (buildExtensions (profileOf profile) (now (name .entry)) (now (scid .entry)) (now (tape .entry)) (typesAt (profile .«extensions_order») (now (order .entry))) at) r (now (out .entry)) (now (out .exit)) ⌝ }
+    ensures { λ r. ⌜ Puts (extensionsAt profile (now (order .entry)) (now (name .entry)) (now (scid .entry)) (now (tape .entry)) at) r (now (out .entry)) (now (out .exit)) ⌝ }
 {
     let types = profile.extensions_order;
     let mut n: usize = 0;

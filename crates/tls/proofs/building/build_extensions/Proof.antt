@@ -70,7 +70,7 @@ next-drawn c =
 loop-holds : tie.Need-loop-holds Inv-loop μ-loop
 loop-holds c =
     let start = c .before .before .before .before .before .before in
-    (omega arith, starts _ (now (start .args .out)) (start .pre .has .fits))
+    (omega arith, starts _ (now (start .args .out)) (start .pre .part .has .fits))
 
 mul-k : tie.Need-mul-k Inv-loop μ-loop
 mul-k c = search needs
@@ -110,14 +110,14 @@ build-extension-requires c κs =
     let next = extensionAt profile name scid tape order (loop .i) (loop .t) in
     let rises = extensions-rise (profileOf profile) name scid tape (typesAt (profile .«extensions_order») later) (next .next) in
     record {
-      sound = pre .sound;
-      shortName = pre .shortName;
-      shortId = pre .shortId;
-      has = part-room next (extensionsOf profile name scid tape later) (here (c .before .before)) (pre .has) rises;
+      sound = pre .part .sound;
+      shortName = pre .part .shortName;
+      shortId = pre .part .shortId;
+      has = part-room next (extensionsOf profile name scid tape later) (here (c .before .before)) (pre .part .has) rises;
     }
 
 add-n : tie.Need-add-n Inv-loop μ-loop
-add-n c = omega (arith, next-drawn c .writing .within, c .before .before .before .before .before .before .before .before .before .before .before .before .before .before .pre .has .small)
+add-n c = omega (arith, next-drawn c .writing .within, c .before .before .before .before .before .before .before .before .before .before .before .before .before .before .pre .part .has .small)
 
 add-i : tie.Need-add-i Inv-loop μ-loop
 add-i c = omega arith
