@@ -9,9 +9,9 @@ use lib.ListN.{length, take, drop, getD, length-take, length-drop}
 use lib.Seq.{getD-take, getD-drop, drop-drop}
 use Rattle.wire.specs.Answer.{result}
 use Rattle.wire.proofs.ListLaws.{lt-or-le}
-use Rattle.varint.specs.Varint.{class}
+use Rattle.varint.specs.Varint.{class, Holds}
 use Rattle.varint.proofs.TableLaws.{class-small, class-holds}
-use Rattle.frames.specs.Frame.{Piece, Holds, AllWhole, pieces}
+use Rattle.frames.specs.Frame.{Piece, AllWhole, pieces}
 use Rattle.frames.specs.Join.{limit, join, roomy}
 use Rattle.frames.specs.Lists.{Among, Covered, PartOf, Carry, JoinedExactly}
 use Rattle.frames.specs.Cut.{cutFrom, cut, framesOf}

@@ -13,10 +13,10 @@ use Rattle.wire.specs.Numbers.{Bytes}
 use Rattle.wire.proofs.NumberLaws.{bytes-drop}
 use Rattle.wire.proofs.ListLaws.{length-part}
 use Rattle.wire.proofs.AnswerLaws.{apart, same-result, ask-yes, askFor-result, andThen-result}
-use Rattle.varint.specs.Varint.{width, form, classAt, readOf}
+use Rattle.varint.specs.Varint.{width, form, classAt, readOf, Holds}
 use Rattle.varint.specs.declared.Varint.{Varint}
 use Rattle.varint.proofs.RoundTrip.{length-form, form-read, Formed, read-formed}
-use Rattle.frames.specs.Frame.{Piece, Frame, padding, ping, crypto, encode, Holds, Whole}
+use Rattle.frames.specs.Frame.{Piece, Frame, padding, ping, crypto, encode, Whole}
 use Rattle.frames.specs.Read.{Shape, readCrypto, readFrame, extent, pieceIn}
 use Rattle.frames.specs.Read as shape
 use Rattle.frames.specs.Join.{place, placeFrame}

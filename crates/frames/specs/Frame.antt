@@ -1,8 +1,8 @@
 -- Whole frames as values, and their bytes (RFC 9000, sections 19.1, 19.2 and 19.6; document 01, "Joining frames").
-use Prim.Native.Nat.{ℕ, _+_, _<_}
+use Prim.Native.Nat.{ℕ, _+_}
 use mathlib.Core.List.{List, [], _∷_, _++_}
 use lib.ListN.{length}
-use Rattle.varint.specs.Varint.{ceiling, form}
+use Rattle.varint.specs.Varint.{form, Holds}
 
 -- data at an offset of the stream
 pub record Piece : Type 0 where
@@ -28,11 +28,6 @@ encode (crypto o l p) = 6 ∷ (form o (p .offset) ++ (form l (length (p .bytes))
 unfoldable pub encodeAll : List Frame → List ℕ
 encodeAll [] = []
 encodeAll (f ∷ fs) = encode f ++ encodeAll fs
-
--- a width of 1, 2, 4 or 8 bytes that holds a number
-pub record Holds (class value : ℕ) : Type 0 where
-  pub known : class < 4
-  pub below : value < ceiling class
 
 -- each number of a frame is written in a width that holds it
 abbrev pub Whole : Frame → Type 0

@@ -6,12 +6,12 @@ use mathlib.Core.Bool.{true, false}
 use mathlib.Core.List.{List, [], _∷_, _++_, flatten}
 use lib.ListN.{getD, replicate}
 use Rattle.wire.specs.Numbers.{digits}
-use Rattle.wire.specs.Vectors.{vector}
+use Rattle.wire.specs.Vectors.{vector, extension}
 use Rattle.wire.specs.Sums.{swapped}
 use Rattle.profiles.specs.Profile.{Profile}
 use Rattle.profiles.specs.Sizes.{sessionLength, afterOrder, keyShareSize, keyDraws}
 use Rattle.tape.specs.Tape.{randBytes, lowestFirst, nextU64, remainders, swaps, shuffle, payloadLength}
-use Rattle.tls_extensions.specs.Extensions.{extension, keyOf, keyShare, keyShares, extKeyShare, extEncryptedClientHello}
+use Rattle.tls_extensions.specs.Extensions.{keyOf, keyShare, keyShares, extKeyShare, extEncryptedClientHello}
 use Rattle.tls.specs.Hello.{buildExtension, buildExtensions, order, block}
 use Rattle.tls.proofs.Sent.{pieces}
 

@@ -10,7 +10,7 @@ use lib.ListN.{take}
 use lib.Seq.{take-at}
 use lib.Dec.{eqb, ltb}
 use Rattle.wire.specs.Numbers.{digits, number}
-use Rattle.wire.specs.Vectors.{vector}
+use Rattle.wire.specs.Vectors.{vector, extension}
 use Rattle.wire.specs.Sums.{indicator, total, Permutation, any, member}
 use Rattle.wire.proofs.NumberLaws.{above, length-digits, number-digits}
 use Rattle.wire.proofs.SumLaws.{and-left, and-right}
@@ -22,7 +22,6 @@ use Rattle.tape.specs.Tape.{shuffle}
 use Rattle.tape.specs.Part.{Part, undrawn}
 use Rattle.tape.proofs.ShuffleLaws.{shuffle-permutes}
 use Rattle.tls_extensions.specs.Extensions
-use Rattle.tls_extensions.specs.Extensions.{extension}
 use Rattle.tls_parameters.specs.Parameters.{extQuicTp}
 use Rattle.tls.specs.Hello.{buildExtension, buildExtensions, order, block}
 
@@ -134,13 +133,13 @@ sent-type p name scid tape t at h =
 -- ---- the types of a block
 
 -- a test that all elements pass is passed by all in any order
-module _ (q : ℕ → Bool) where
-  failing : (l : List ℕ) → all q l ≡ true → total (λ x. indicator (not (q x))) l ≡ 0
+module _ {A : Type 0} (q : A → Bool) where
+  failing : (l : List A) → all q l ≡ true → total (λ x. indicator (not (q x))) l ≡ 0
   unfolding all total
   failing [] h = refl
   failing (x ∷ l) h = rw (and-left (q x) (all q l) h) (omega (arith, failing l (and-right (q x) (all q l) h)))
 
-  none-failing : (l : List ℕ) → total (λ x. indicator (not (q x))) l ≡ 0 → all q l ≡ true
+  none-failing : (l : List A) → total (λ x. indicator (not (q x))) l ≡ 0 → all q l ≡ true
   unfolding all total
   none-failing [] h = refl
   none-failing (x ∷ l) h = go (λ k. none-failing l k) (q x) h
@@ -151,7 +150,7 @@ module _ (q : ℕ → Bool) where
       go ih true k = ih (omega arith)
       go ih false k = absurd (omega arith)
 
-  all-permutes : (a b : List ℕ) → Permutation a b → all q a ≡ true → all q b ≡ true
+  pub all-permutes : (a b : List A) → Permutation a b → all q a ≡ true → all q b ≡ true
   all-permutes a b same h = none-failing b (sym (same (λ x. indicator (not (q x)))) ∙ failing a h)
 
 -- the type that an extension's bytes begin with

@@ -6,12 +6,11 @@ use native.Mathlib.Nat.{mod-eq-of-lt}
 use native.Mathlib.Omega.{arith}
 use lib.ListN.{length, length-append}
 use Rattle.wire.specs.Numbers.{digits}
-use Rattle.wire.specs.Vectors.{vector}
+use Rattle.wire.specs.Vectors.{vector, extension}
 use Rattle.wire.specs.Front.{front, Put}
 use Rattle.wire.proofs.NumberLaws.{length-digits}
 use Rattle.wire.proofs.VectorLaws.{length-vector}
 use Rattle.wire.proofs.Writing.{filled}
-use Rattle.tls_extensions.specs.Extensions.{extension}
 
 -- a length in one byte, as `w8` writes it
 pub one-byte : {n : ℕ} {old new : List ℕ} → n < 256 → new ≡ front (n ∷ []) old → Put (digits 256 1 n) 1 old new

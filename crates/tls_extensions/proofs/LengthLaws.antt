@@ -7,7 +7,7 @@ use native.Mathlib.Decide.{ℕ-discrete}
 use native.Mathlib.Omega.{arith}
 use lib.ListN.{length, length-append}
 use Rattle.wire.specs.Numbers.{digits}
-use Rattle.wire.specs.Vectors.{vector, words}
+use Rattle.wire.specs.Vectors.{vector, words, extension, protocols}
 use Rattle.wire.specs.Sums.{total}
 use Rattle.wire.proofs.NumberLaws.{length-digits}
 use Rattle.wire.proofs.VectorLaws.{length-vector, length-words}
@@ -15,7 +15,7 @@ use Rattle.profiles.specs.Sizes.{keyShareSize, keyDraws}
 use Rattle.tape.specs.Tape.{randBytes, nextU64, payloadLength}
 use Rattle.tape.specs.Part.{Part}
 use Rattle.tape.proofs.DrawLaws.{length-randBytes}
-use Rattle.tls_extensions.specs.Extensions.{extension, extServerName, protocols, extAlpn, extU16List, extSupportedVersions, extPskKeModes, extDelegatedCredentials, keyOf, keyShare, keyShares, extKeyShare, extApplicationSettings, extEncryptedClientHello, extRecordSizeLimit, extRenegInfo, extStatusRequest, extExtendedMasterSecret, extCompressCert}
+use Rattle.tls_extensions.specs.Extensions.{extServerName, extAlpn, extU16List, extSupportedVersions, extPskKeModes, extDelegatedCredentials, keyOf, keyShare, keyShares, extKeyShare, extApplicationSettings, extEncryptedClientHello, extRecordSizeLimit, extRenegInfo, extStatusRequest, extExtendedMasterSecret, extCompressCert}
 use Rattle.tls_extensions.proofs.ShareLaws.{size-secp, key-secp, key-other}
 
 pub length-extension : (t : ℕ) (body : List ℕ) → length (extension t body) ≡ 4 + length body

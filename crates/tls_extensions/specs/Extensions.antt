@@ -4,22 +4,14 @@ use mathlib.Core.Bool.{Bool, cond}
 use mathlib.Core.List.{List, [], _∷_, _++_}
 use lib.Dec.{eqb}
 use Rattle.wire.specs.Numbers.{digits}
-use Rattle.wire.specs.Vectors.{vector, words}
+use Rattle.wire.specs.Vectors.{vector, words, protocols, extension}
 use Rattle.profiles.specs.Sizes.{keyShareSize, keyDraws}
 use Rattle.tape.specs.Tape.{randBytes, nextU64, payloadLength}
 use Rattle.tape.specs.Part.{Part, undrawn, followed, wrapped}
 
--- type, and the body with its length in two bytes
-unfoldable pub extension : ℕ → List ℕ → List ℕ
-extension t body = digits 256 2 t ++ vector 2 body
-
 -- one entry: type 0, name
 unfoldable pub extServerName : List ℕ → List ℕ
 extServerName name = extension 0x0000 (vector 2 (0x00 ∷ vector 2 name))
-
-unfoldable pub protocols : List (List ℕ) → List ℕ
-protocols [] = []
-protocols (name ∷ names) = vector 1 name ++ protocols names
 
 unfoldable pub extAlpn : List (List ℕ) → List ℕ
 extAlpn names = extension 0x0010 (vector 2 (protocols names))

@@ -15,7 +15,7 @@ use Rattle.profiles.specs.declared.TpEntry.{TpEntry}
 use Rattle.tape.specs.Tape.{shuffle, afterShuffle}
 use Rattle.tape.specs.Part.{Room}
 use Rattle.tape.proofs.ShuffleLaws.{upto, length-upto, length-shuffle, shuffle-within, places-shuffle}
-use Rattle.tls_extensions.specs.Extensions.{extension}
+use Rattle.wire.specs.Vectors.{extension}
 use Rattle.tls_extensions.proofs.LengthLaws.{length-extension}
 use Rattle.tls_extensions.proofs.HeadLaws.{length-head, extension-is}
 use Rattle.tls_parameters.specs.Parameters.{Resolved, none, resolve, resolved, afterParameters, sentParameters, parameters, extQuicTp}

@@ -7,7 +7,7 @@ use Rattle.profiles.specs.Profile.{Parameter, varint, bytes, versionInfo, scidS
 use Rattle.profiles.specs.Sizes.{parameterDraws}
 use Rattle.tape.specs.Tape.{randBytes, nextU64, shuffle, afterShuffle, greaseId, versionInformation}
 use Rattle.tape.specs.Part.{Part}
-use Rattle.tls_extensions.specs.Extensions.{extension}
+use Rattle.wire.specs.Vectors.{extension}
 
 -- a parameter with its value
 pub record Resolved : Type 0 where

@@ -39,7 +39,7 @@ shape v =
     (λ h. record { fits = omega arith; top = omega arith; rest = omega arith })
 
 module _ (c v : ℕ) (rest : List ℕ) (h : c < 4) (l : v < ceiling c) where
-  classAt-form : classAt (form c v ++ rest) ≡ c
+  pub classAt-form : classAt (form c v ++ rest) ≡ c
   unfolding classAt form
   classAt-form =
       let long : 0 < length (digits 256 (width c) (c * ceiling c + v)) = rw length-digits (width-positive c h) in

@@ -43,6 +43,11 @@ class v = firstAbove ceilings v
 unfoldable pub form : ℕ → ℕ → List ℕ
 form c v = digits 256 (width c) (c * ceiling c + v)
 
+-- a width of 1, 2, 4 or 8 bytes that holds a number
+pub record Holds (class value : ℕ) : Type 0 where
+  pub known : class < 4
+  pub below : value < ceiling class
+
 -- "`size` and `write` use the shortest width."
 unfoldable pub shortest : ℕ → List ℕ
 shortest v = form (class v) v

@@ -5,10 +5,10 @@ use mathlib.Core.Path.{_≡_}
 use mathlib.Core.List.{List, [], _∷_, _++_, append-assoc, append-nil}
 use lib.ListN.{length}
 use Rattle.wire.specs.Numbers.{digits}
-use Rattle.wire.specs.Vectors.{vector}
+use Rattle.wire.specs.Vectors.{vector, protocols}
 use Rattle.wire.proofs.VectorLaws.{length-vector}
 use Rattle.wire.proofs.Writing.{filled, joined, put-as}
-use Rattle.tls_extensions.specs.Extensions.{extAlpn, protocols}
+use Rattle.tls_extensions.specs.Extensions.{extAlpn}
 use Rattle.tls_extensions.proofs.HeadLaws.{one-byte, length-list-head, list-extension-is}
 use borrow.Author.Needs.{needs}
 use Rattle.tls_extensions.proofs.ext_alpn.Statement.{statement}
