@@ -1,0 +1,21 @@
+-- the code
+pub mod HeadLaws
+pub mod HeadAnswers
+pub mod KindLaws
+pub mod KnownLaws
+pub mod StepLaws
+pub mod GatherLaws
+pub mod NoteLaws
+pub mod WalkLaws
+pub mod NameLaws
+pub mod ReportLaws
+pub mod PlaceLaws
+pub mod RisingLaws
+-- what is well formed
+pub mod WalkTrips
+pub mod FieldTrips
+pub mod WellFormed
+pub mod Accepted
+pub mod Ranges
+pub mod CountLaws
+pub mod Samples

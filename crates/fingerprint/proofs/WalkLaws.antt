@@ -1,0 +1,189 @@
+-- The walk's turns, and its state before each. Assumes nothing.
+use Prim.Native.Nat.{ℕ, zero, suc, _+_, _-_, _%_, _≤_, _<_}
+use mathlib.Core.Path.{_≡_, refl, sym, ap, _∙_, subst}
+use mathlib.Core.Bool.{Bool, true, false}
+use mathlib.Core.List.{List, [], _∷_, _++_, map, map-append}
+use native.Mathlib.Nat.{sub-zero}
+use native.Mathlib.Omega.{arith}
+use lib.ListN.{length, take, drop, set, getD, replicate, length-append, length-drop, length-map, length-replicate, length-set, getD-replicate, drop-of-length-le}
+use lib.Seq.{drop-cons, take-at}
+use Rattle.wire.specs.Answer.{result, refused}
+use Rattle.wire.specs.Numbers.{Bytes}
+use Rattle.wire.specs.Sums.{member}
+use Rattle.wire.proofs.NumberLaws.{bytes-take, bytes-drop}
+use Rattle.wire.proofs.ListLaws.{length-part}
+use Rattle.profiles.specs.declared.ExtType.{ExtType}
+use Rattle.fingerprint_bodies.specs.Entries.{entry}
+use Rattle.fingerprint_bodies.specs.Conditions.{All}
+use Rattle.fingerprint_bodies.specs.Body.{Kind, kind, kindOf, encodeBody}
+use Rattle.fingerprint_bodies.proofs.LengthLaws.{encoded-length, body-kind}
+use Rattle.fingerprint_lists.specs.Arrays.{extType, span, padded}
+use Rattle.fingerprint_lists.specs.declared.Span.{Span}
+use Rattle.fingerprint_lists.proofs.FillLaws.{padded-none, padded-set}
+use Rattle.fingerprint.specs.ClientHello.{Extension, typeOf, encodeExtensions}
+use Rattle.fingerprint.specs.Reader.{extension, walk, allExtensions}
+use Rattle.fingerprint.specs.Code.{slot, Marked, StepFound, Noted, Surveyed, onward, HasKind, Walking}
+use Rattle.fingerprint.proofs.KindLaws.{slot-small}
+use Rattle.fingerprint.proofs.KnownLaws.{marked-none, marked-next}
+use Rattle.fingerprint.proofs.GatherLaws.{length-snoc, count-below}
+use Rattle.fingerprint.proofs.NoteLaws.{notes-none, notes-next}
+
+-- ---- turns
+
+module _ (h : List ℕ) (block : ℕ) where
+  onward-start : allExtensions (drop block h) ≡ onward h block [] block
+  unfolding allExtensions onward
+  onward-start = rw (sub-zero (length (drop block h)))
+
+  module _ (found : List Extension) (at : ℕ) (l : at < length h) (c : length found + block ≤ at) where
+    abbrev fuel : ℕ
+    fuel = length (drop block h) - (length found + 1)
+
+    burn : length (drop block h) - length found ≡ suc fuel
+    burn = omega (arith, length-drop block h)
+
+    onward-next : (e : Extension) (to : ℕ) → extension found (drop at h) ≡ result (entry e (drop to h)) → onward h block found at ≡ onward h block (found ++ (e ∷ [])) to
+    unfolding onward walk
+    onward-next e to x =
+        let more : length (found ++ (e ∷ [])) ≡ length found + 1 = length-append found (e ∷ []) in
+        let here : drop at h ≡ getD h at 0 ∷ drop (suc at) h = drop-cons h at 0 l in
+        rw (burn, more, here, rw here at x)
+
+    onward-stop : (n : ℕ) → extension found (drop at h) ≡ refused n → onward h block found at ≡ refused n
+    unfolding onward walk
+    onward-stop n x =
+        let here : drop at h ≡ getD h at 0 ∷ drop (suc at) h = drop-cons h at 0 l in
+        rw (burn, here, rw here at x)
+
+  walk-nothing : (f : ℕ) (found : List Extension) → walk f found [] ≡ result found
+  unfolding walk
+  walk-nothing zero found = refl
+  walk-nothing (suc f) found = refl
+
+  onward-end : (found : List Extension) (at : ℕ) → length h ≤ at → onward h block found at ≡ result found
+  unfolding onward
+  onward-end found at l = rw (drop-of-length-le h {i = at} l) (walk-nothing (length (drop block h) - length found) found)
+
+-- ---- one more at the end of lists
+
+all-snoc : {A : Type 0} (P : A → Type 0) (l : List A) (x : A) → All P l → P x → All P (l ++ (x ∷ []))
+all-snoc P [] x a p = (p, tt)
+all-snoc P (y ∷ l) x a p = (a .0, all-snoc P l x (a .1) p)
+
+module _ {A : Type 0} (z : A) (l items : List A) (n : ℕ) (is : items ≡ padded 64 z l) (count : n ≡ length l) where
+  stored : (a : A) → n < 64 → set items n a ≡ padded 64 z (l ++ (a ∷ []))
+  stored a h = rw (is, count) (padded-set 64 z l a (omega (arith, h, count)))
+
+  standing : take n items ≡ l
+  unfolding padded
+  standing = rw is (take-at l (replicate (64 - length l) z) n (sym count))
+
+  places : n ≤ 64 → length items ≡ 64
+  unfolding padded
+  places h = rw is (omega (arith, h, count, length-append l (replicate (64 - length l) z), length-replicate (64 - length l) z))
+
+-- ---- the state
+
+pub walking-start : (h : List ℕ) (block : ℕ) → block ≤ length h
+    → Walking h block block 0 (replicate 64 (extType 0)) (replicate 64 0) (replicate 64 false) (replicate 8 (span 0 0))
+unfolding encodeExtensions
+walking-start h block l = record {
+  found = [];
+  is = onward-start h block;
+  place = omega arith;
+  inside = l;
+  count-is = refl;
+  few = omega arith;
+  types-are = sym (padded-none 64 (extType 0));
+  known-are = sym (padded-none 64 0);
+  marks-long = length-replicate 64 false;
+  marked = marked-none (replicate 64 false);
+  kinds = tt;
+  bodies-long = length-replicate 8 (span 0 0);
+  notes = λ k. subst (λ (s : Span). Noted h block [] k s) (sym (getD-replicate 8 (slot k) (span 0 0) (span 0 0) (slot-small k))) (notes-none h block k);
+}
+
+module _ {h : List ℕ} {block at count : ℕ} {types : List ExtType} {known : List ℕ} {marks : List Bool} {bodies : List Span} (w : Walking h block at count types known marks bodies) where
+  known-count : count ≡ length (map typeOf (w .found))
+  known-count = w .count-is ∙ sym (length-map (w .found) typeOf)
+
+  known-take : take count known ≡ map typeOf (w .found)
+  known-take = standing 0 (map typeOf (w .found)) known count (w .known-are) known-count
+
+  pub known-long : length known ≡ 64
+  known-long = places 0 (map typeOf (w .found)) known count (w .known-are) known-count (omega (arith, w .count-is, w .few))
+
+  pub known-marked : Marked (take count known) marks
+  known-marked = subst (λ (ts : List ℕ). Marked ts marks) (sym known-take) (w .marked)
+
+  pub has-room : length (take count known) < 64 → count < 64
+  has-room l = omega (arith, l, ap length known-take, known-count)
+
+  types-count : count ≡ length (map extType (map typeOf (w .found)))
+  types-count = known-count ∙ sym (length-map (map typeOf (w .found)) extType)
+
+  forward : length (w .found) + block ≤ at
+  forward = omega (arith, w .place, count-below (w .found))
+
+  pub walking-stop : (n : ℕ) → at < length h → ((done : List Extension) → map typeOf done ≡ take count known → extension done (drop at h) ≡ refused n)
+      → allExtensions (drop block h) ≡ refused n
+  walking-stop n l s = w .is ∙ onward-stop h block (w .found) at l forward n (s (w .found) (sym known-take))
+
+  pub walking-end : length h ≤ at → Surveyed h block (record { number = 0; types = types; count = count; bodies = bodies })
+  walking-end l = record {
+    found = w .found;
+    is = w .is ∙ onward-end h block (w .found) at l;
+    count-is = w .count-is;
+    few = w .few;
+    types-are = w .types-are;
+    notes = w .notes;
+  }
+
+  module _ {t start end mark place : ℕ} (m : mark ≡ t % 64) (p : place ≡ slot (kind t)) (bytes : Bytes h) (l : at < length h) (s : StepFound h at t start end (take count known)) where
+    abbrev next : Extension
+    next = record { type = t; body = s .found }
+
+    abbrev all : List Extension
+    all = w .found ++ (next ∷ [])
+
+    room : count < 64
+    room = has-room (s .room)
+
+    size : length (encodeBody (s .found)) ≡ end - start
+    size =
+        encoded-length (kind t) (take (end - start) (drop start h)) (s .found) (bytes-take (end - start) (drop start h) (bytes-drop start h bytes)) (s .body-is)
+        ∙ length-part h start end (s .forward) (s .inside)
+
+    types-next : map typeOf all ≡ map typeOf (w .found) ++ (t ∷ [])
+    types-next = map-append typeOf (w .found) (next ∷ [])
+
+    marked-all : Marked (map typeOf all) (set marks mark true)
+    marked-all =
+        rw (types-next, m) (marked-next (map typeOf (w .found)) marks t (omega (arith, w .marks-long)) (w .marked))
+
+    kind-is : kindOf (s .found) ≡ kind t
+    kind-is = body-kind (kind t) (take (end - start) (drop start h)) (s .found) (s .body-is)
+
+    notes-all : (k : Kind) → Noted h block all k (getD (set bodies place (span start (end - start))) (slot k) (span 0 0))
+    notes-all =
+        rw p
+        (notes-next h block t start (end - start) (w .found) next bodies kind-is (omega (arith, w .bodies-long)) (w .kinds)
+        (ap (λ (ts : List ℕ). member t ts) (sym known-take) ∙ s .new) (omega (arith, s .after-header, w .place)) (omega (arith, s .forward, s .inside)) (s .body-is) (s .good) (w .notes))
+
+    pub walking-next : Walking h block end (count + 1) (set types count (extType t)) (set known count t) (set marks mark true) (set bodies place (span start (end - start)))
+    walking-next = record {
+      found = all;
+      is = w .is ∙ onward-next h block (w .found) at l forward next end (s .is (w .found) (sym known-take));
+      place = omega (arith, length-snoc (w .found) next, size, w .place, s .after-header, s .forward);
+      inside = s .inside;
+      count-is = omega (arith, length-append (w .found) (next ∷ []), w .count-is);
+      few = omega (arith, length-append (w .found) (next ∷ []), w .count-is, room);
+      types-are = stored (extType 0) (map extType (map typeOf (w .found))) types count (w .types-are) types-count (extType t) room
+          ∙ ap (λ (l : List ExtType). padded 64 (extType 0) l) (sym (ap (λ (ts : List ℕ). map extType ts) types-next ∙ map-append extType (map typeOf (w .found)) (t ∷ [])));
+      known-are = stored 0 (map typeOf (w .found)) known count (w .known-are) known-count t room ∙ ap (λ (ts : List ℕ). padded 64 0 ts) (sym types-next);
+      marks-long = length-set marks mark true ∙ w .marks-long;
+      marked = marked-all;
+      kinds = all-snoc HasKind (w .found) next (w .kinds) kind-is;
+      bodies-long = length-set bodies place (span start (end - start)) ∙ w .bodies-long;
+      notes = notes-all;
+    }

@@ -1,0 +1,145 @@
+use mathlib.Core.Path.{ap, _∙_}
+use Prim.Native.Nat.{ℕ, _+_}
+use mathlib.Core.List.{List, map}
+use Rattle.fingerprint_bodies.specs.Entries.{orEmpty}
+use Rattle.fingerprint_bodies.specs.Body.{name, groups, algorithms, protocols, versions, shares, parameters}
+use Rattle.fingerprint_bodies.specs.Forms.{wordsIn, wordList, protocolNames, keyShares, transportParameters, groupOf, idOf}
+use Rattle.fingerprint_lists.specs.Arrays.{wordsOf, groupsOf, idsOf, spansOf, placed}
+use Rattle.fingerprint.specs.Code.{noteOf}
+use Rattle.fingerprint.proofs.NameLaws.{length-part-of}
+use Rattle.fingerprint.proofs.ReportLaws.{length-note, good-groups, good-algorithms, good-protocols, good-versions, good-shares, good-ids, report-shown}
+use native.Mathlib.Omega.{arith}
+use borrow.Author.Needs.{needs}
+use Rattle.fingerprint.proofs.report.report.Statement.{statement}
+use Rattle.fingerprint.proofs.report.report.Tie as tie
+
+part-requires : tie.Need-part-requires
+part-requires c κs = search needs
+
+words-in-requires : tie.Need-words-in-requires
+words-in-requires c κs =
+    let s = (c .before .before .before) in
+    rw (c .part .ensures) (omega (arith, length-part-of (s .args .hello .now) (s .args .suites) (s .pre .suites-inside), s .pre .suites-few))
+
+array-copy-out-at-groups : tie.Need-array-copy-out-at-groups
+array-copy-out-at-groups c = search needs
+
+part-requires-2 : tie.Need-part-requires-2
+part-requires-2 c κs = (c .before .before .before .before .before .pre .inside) groups
+
+group-list-requires : tie.Need-group-list-requires
+group-list-requires c κs = rw (c .part2 .ensures) (good-groups (c .before .before .before .before .before .before .pre))
+
+array-copy-out-at-shares : tie.Need-array-copy-out-at-shares
+array-copy-out-at-shares c = search needs
+
+part-requires-3 : tie.Need-part-requires-3
+part-requires-3 c κs = (c .before .before .before .before .before .before .before .before .pre .inside) shares
+
+key-share-groups-requires : tie.Need-key-share-groups-requires
+key-share-groups-requires c κs = rw (c .part3 .ensures) (good-shares (c .before .before .before .before .before .before .before .before .before .pre))
+
+array-copy-out-at-algorithms : tie.Need-array-copy-out-at-algorithms
+array-copy-out-at-algorithms c = search needs
+
+part-requires-4 : tie.Need-part-requires-4
+part-requires-4 c κs = (c .before .before .before .before .before .before .before .before .before .before .before .pre .inside) algorithms
+
+word-list-requires : tie.Need-word-list-requires
+word-list-requires c κs = rw (c .part4 .ensures) (omega arith, omega arith, good-algorithms (c .before .before .before .before .before .before .before .before .before .before .before .before .pre))
+
+array-copy-out-at-versions : tie.Need-array-copy-out-at-versions
+array-copy-out-at-versions c = search needs
+
+part-requires-5 : tie.Need-part-requires-5
+part-requires-5 c κs = (c .before .before .before .before .before .before .before .before .before .before .before .before .before .before .pre .inside) versions
+
+word-list-requires-2 : tie.Need-word-list-requires-2
+word-list-requires-2 c κs = rw (c .part5 .ensures) (omega arith, omega arith, good-versions (c .before .before .before .before .before .before .before .before .before .before .before .before .before .before .before .pre))
+
+array-copy-out-at-protocols : tie.Need-array-copy-out-at-protocols
+array-copy-out-at-protocols c = search needs
+
+part-requires-6 : tie.Need-part-requires-6
+part-requires-6 c κs = (c .before .before .before .before .before .before .before .before .before .before .before .before .before .before .before .before .before .pre .inside) protocols
+
+protocol-names-requires : tie.Need-protocol-names-requires
+protocol-names-requires c κs =
+    let p = (c .before .before .before .before .before .before .before .before .before .before .before .before .before .before .before .before .before .before .pre) in
+    rw (c .part6 .ensures) (good-protocols p, omega (arith, length-note p protocols, p .inside protocols, p .short))
+
+array-copy-out-at-parameters : tie.Need-array-copy-out-at-parameters
+array-copy-out-at-parameters c = search needs
+
+part-requires-7 : tie.Need-part-requires-7
+part-requires-7 c κs = (c .before .before .before .before .before .before .before .before .before .before .before .before .before .before .before .before .before .before .before .before .pre .inside) parameters
+
+parameter-ids-requires : tie.Need-parameter-ids-requires
+parameter-ids-requires c κs = rw (c .part7 .ensures) (good-ids (c .before .before .before .before .before .before .before .before .before .before .before .before .before .before .before .before .before .before .before .before .before .pre))
+
+array-copy-out-name-in : tie.Need-array-copy-out-name-in
+array-copy-out-name-in c = search needs
+
+name-in-requires : tie.Need-name-in-requires
+name-in-requires c κs =
+    let p = (c .before .before .before .before .before .before .before .before .before .before .before .before .before .before .before .before .before .before .before .before .before .before .before .before .before .before .before .before .before .before .before .pre) in
+    omega (arith, p .inside name, p .short)
+
+returns : tie.Need-returns
+returns c =
+    let ids = (c .before .before .before .before .before .before .before .before .before .before) in
+    let names = ids .before .before .before in
+    let versions = names .before .before .before in
+    let algorithms = versions .before .before .before in
+    let shares = algorithms .before .before .before in
+    let groups = shares .before .before .before in
+    let suites = groups .before .before .before in
+    let at = noteOf (suites .before .before .before .before .args .found) protocols .start in
+    record {
+      is = λ v f.
+          report-shown f
+          (suites .words-in .result)
+          (groups .group-list .result)
+          (shares .key-share-groups .result)
+          (algorithms .word-list .result)
+          (versions .word-list2 .result)
+          (names .protocol-names .result)
+          (c .name-in .result)
+          (ids .parameter-ids .result)
+          (suites .words-in .ensures ∙ ap (λ (b : List ℕ). wordsOf (wordsIn b)) (suites .before .part .ensures))
+          (groups .group-list .ensures ∙ ap (λ (b : List ℕ). groupsOf (orEmpty (wordList 2 b))) (groups .before .part2 .ensures))
+          (shares .key-share-groups .ensures ∙ ap (λ (b : List ℕ). groupsOf (map groupOf (orEmpty (keyShares b)))) (shares .before .part3 .ensures))
+          (algorithms .word-list .ensures ∙ ap (λ (b : List ℕ). wordsOf (orEmpty (wordList 2 b))) (algorithms .before .part4 .ensures))
+          (versions .word-list2 .ensures ∙ ap (λ (b : List ℕ). wordsOf (orEmpty (wordList 1 b))) (versions .before .part5 .ensures))
+          (names .protocol-names .ensures ∙ ap (λ (b : List ℕ). spansOf (placed (at + 2) (orEmpty (protocolNames b)))) (names .before .part6 .ensures))
+          (c .name-in .ensures)
+          (ids .parameter-ids .ensures ∙ ap (λ (b : List ℕ). idsOf (map idOf (orEmpty (transportParameters b)))) (ids .before .part7 .ensures));
+    }
+
+pub report-spec : {M : Type 1} → statement M
+report-spec =
+    tie.close
+    (tie.spec
+    part-requires
+    words-in-requires
+    array-copy-out-at-groups
+    part-requires-2
+    group-list-requires
+    array-copy-out-at-shares
+    part-requires-3
+    key-share-groups-requires
+    array-copy-out-at-algorithms
+    part-requires-4
+    word-list-requires
+    array-copy-out-at-versions
+    part-requires-5
+    word-list-requires-2
+    array-copy-out-at-protocols
+    part-requires-6
+    protocol-names-requires
+    array-copy-out-at-parameters
+    part-requires-7
+    parameter-ids-requires
+    array-copy-out-name-in
+    name-in-requires
+    returns)

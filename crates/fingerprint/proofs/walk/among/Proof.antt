@@ -1,0 +1,57 @@
+-- `among` compares with one known type after the other. Assumes nothing.
+use mathlib.Core.Path.{_≡_, refl, sym, _∙_}
+use Prim.Native.Nat.{_-_, _≤_, zero-le}
+use lib.ListN.{take, drop}
+use Rattle.wire.specs.Sums.{member}
+use Rattle.fingerprint.proofs.KnownLaws.{member-here, member-next, member-end}
+use borrow.Author.Needs.{needs}
+use native.Mathlib.Omega.{arith}
+use Rattle.fingerprint.proofs.walk.among.Statement.{statement}
+use Rattle.fingerprint.proofs.walk.among.Tie as tie
+
+abbrev Inv-loop : tie.InvT-loop
+Inv-loop known count t i₀ i =
+    (i ≤ count) × (member t (take count known) ≡ member t (drop i (take count known)))
+
+abbrev μ-loop : tie.MeasureT-loop
+μ-loop known count t i₀ i =
+    count - i
+
+loop-holds : tie.Need-loop-holds Inv-loop μ-loop
+loop-holds c = (zero-le, refl)
+
+mul-if1 : tie.Need-mul-if1 Inv-loop μ-loop
+mul-if1 c = search needs
+
+element-copy-out-if1 : tie.Need-element-copy-out-if1 Inv-loop μ-loop
+element-copy-out-if1 c = search needs
+
+returns : tie.Need-returns Inv-loop μ-loop
+returns c = sym ((c .before .before .before .loop .inv .1) ∙ member-here (c .before .before .before .before .args .known .now) (c .before .before .before .before .args .count) (c .before .before .before .loop .i) (c .before .before .before .before .args .t) (c .before .before .loop-test .taken) (omega (arith, (c .before .before .before .before .pre .0), (c .before .before .before .before .pre .1))) (c .if1 .taken))
+
+add-i : tie.Need-add-i Inv-loop μ-loop
+add-i c = search needs
+
+loop-less : tie.Need-loop-less Inv-loop μ-loop
+loop-less c = search needs
+
+loop-again : tie.Need-loop-again Inv-loop μ-loop
+loop-again c = (search needs, (c .before .before .before .loop .inv .1) ∙ member-next (c .before .before .before .before .args .known .now) (c .before .before .before .before .args .count) (c .before .before .before .loop .i) (c .before .before .before .before .args .t) (c .before .before .loop-test .taken) (omega (arith, (c .before .before .before .before .pre .0), (c .before .before .before .before .pre .1))) (c .if1 .left))
+
+returns-2 : tie.Need-returns-2 Inv-loop μ-loop
+returns-2 c = sym ((c .before .loop .inv .1) ∙ member-end (c .before .before .args .known .now) (c .before .before .args .count) (c .before .loop .i) (c .before .before .args .t) (c .loop-test .left))
+
+pub among-spec : {M : Type 1} → statement M
+among-spec =
+    tie.close
+    (tie.spec
+    Inv-loop
+    μ-loop
+    loop-holds
+    mul-if1
+    element-copy-out-if1
+    returns
+    add-i
+    loop-less
+    loop-again
+    returns-2)

@@ -1,0 +1,228 @@
+-- What the answers of the code's inner functions stand for. No call of document 01 cites this file.
+use Prim.Native.Nat.{ℕ, _+_, _-_, _*_, _%_, _≤_, _<_}
+use mathlib.Core.Path.{_≡_}
+use mathlib.Core.Bool.{Bool, true, false, cond}
+use mathlib.Core.List.{List, [], _∷_, map}
+use mathlib.Core.Option.{Option, none, some}
+use lib.ListN.{length, take, drop, getD}
+use lib.Dec.{ltb}
+use Rattle.wire.specs.Answer.{Answer, result, refused, andThen, IsNumber}
+use Rattle.wire.specs.Sums.{member}
+use Rattle.profiles.specs.declared.ExtType.{ExtType}
+use Rattle.fingerprint_bodies.specs.Entries.{entry, orEmpty, whole}
+use Rattle.fingerprint_bodies.specs.Conditions.{All}
+use Rattle.fingerprint_bodies.specs.Body.{Body, Kind, kind, kindOf, name, groups, algorithms, protocols, versions, shares, parameters, other}
+use Rattle.fingerprint_bodies.specs.Forms.{wordsIn, wordList, serverName, protocolNames, keyShares, transportParameters, groupOf, idOf, bodyOf}
+use Rattle.fingerprint_bodies.specs.Code.{asked}
+use Rattle.fingerprint_lists.specs.Arrays.{extType, span, padded, Part, part, placed}
+use Rattle.fingerprint_lists.specs.declared.Span.{Span}
+use Rattle.fingerprint.specs.ClientHello.{Extension, ClientHello, typeOf, encodeExtensions}
+use Rattle.fingerprint.specs.Reader.{Fields, inForm, withExtensions, oneExtension, extension, walk, allExtensions, afterSuites, afterSession, fields, readExtensions, read}
+use Rattle.fingerprint.specs.Report.{groupsIn, sharesIn, algorithmsIn, versionsIn, idsIn, protocolsIn, namesIn, gathered, blockPlace, report, shown}
+use Rattle.fingerprint.specs.declared.head.Head.{Head}
+use Rattle.fingerprint.specs.declared.head.Head.the-variants as head
+use Rattle.fingerprint.specs.declared.head.Place.{Place}
+use Rattle.fingerprint.specs.declared.head.Place.the-variants as place
+use Rattle.fingerprint.specs.declared.walk.Survey.{Survey}
+use Rattle.fingerprint.specs.declared.walk.Step.{Step}
+use Rattle.fingerprint.specs.declared.walk.Step.the-variants as step
+use Rattle.fingerprint.specs.declared.Fingerprint.{Fingerprint}
+use Rattle.fingerprint.specs.declared.Sni.{Sni}
+use Rattle.fingerprint.specs.declared.Sni.the-variants.{At, Absent}
+
+-- the bytes of a part of the hello
+abbrev pub partOf : List ℕ → Span → List ℕ
+partOf h s = take (s .length) (drop (s .start) h)
+
+-- ---- The head
+
+-- the fields that were read, where the suites stand, and where the first extension does
+pub record HeadFound (h : List ℕ) (session : ℕ) (suites : Span) (block : ℕ) : Type 0 where
+  pub found : Fields
+  pub is : read h ≡ andThen (allExtensions (drop block h)) (λ es. result (withExtensions found es))
+  pub session-is : length (found .sessionId) ≡ session
+  pub suites-are : found .cipherSuites ≡ wordsIn (partOf h suites)
+  pub suites-even : suites .length ≡ 2 * length (found .cipherSuites)
+  pub place : block ≡ 44 + session + suites .length + length (found .compression)
+  pub suites-inside : suites .start + suites .length ≤ length h
+  pub suites-few : suites .length ≤ 128
+  pub inside : block ≤ length h
+  pub short : length h ≤ 16384
+
+abbrev pub HeadAs : Head → List ℕ → Type 0
+HeadAs (head.Fields s suites b) h = HeadFound h s suites b
+HeadAs (head.Refused n) h = (read h ≡ refused n) × IsNumber n
+
+-- what the reader makes of a hello of at most 16,384 bytes is what it makes of the fields after the first four bytes
+pub record BeforeFields (h : List ℕ) : Type 0 where
+  pub is : read h ≡ inForm (fields (drop 4 h)) 19 readExtensions
+  pub short : length h ≤ 16384
+
+-- the same from the suites on, after a session id of so many bytes
+pub record BeforeSuites (h : List ℕ) (session : ℕ) : Type 0 where
+  pub version : List ℕ
+  pub random : List ℕ
+  pub id : List ℕ
+  pub is : read h ≡ inForm (afterSession version random id (drop (39 + session) h)) 19 readExtensions
+  pub session-is : length id ≡ session
+  pub inside : 39 + session ≤ length h
+  pub short : length h ≤ 16384
+
+-- from the compression on, whatever stands before: the compression, and where the first extension stands
+pub record BlockFound (h : List ℕ) (at block : ℕ) : Type 0 where
+  pub compression : List ℕ
+  pub is : (version random id suites : List ℕ) → afterSuites version random id suites (drop at h) ≡ some (record {
+    version = version;
+    random = random;
+    sessionId = id;
+    cipherSuites = suites;
+    compression = compression;
+    block = drop block h;
+  })
+  pub place : block ≡ at + 3 + length compression
+  pub inside : block ≤ length h
+
+abbrev pub BlockAs : Place → List ℕ → ℕ → Type 0
+BlockAs (place.At b) h at = BlockFound h at b
+BlockAs place.Cut h at = (version random id suites : List ℕ) → afterSuites version random id suites (drop at h) ≡ none
+
+-- a list from a place on whose length reaches exactly the hello's end, and where its bytes stand
+abbrev pub EndAs : Place → List ℕ → ℕ → Type 0
+EndAs (place.At b) h at = (whole 2 (drop at h) ≡ some (drop b h)) × (b ≡ at + 2) × (b ≤ length h)
+EndAs place.Cut h at = whole 2 (drop at h) ≡ none
+
+-- ---- The walk's notes
+
+-- the place of each kind in a survey's bodies
+abbrev pub slot : Kind → ℕ
+slot name = 0
+slot groups = 1
+slot algorithms = 2
+slot protocols = 3
+slot versions = 4
+slot shares = 5
+slot parameters = 6
+slot other = 7
+
+abbrev pub nameAt : ℕ → Option (List ℕ) → List Part
+nameAt at none = []
+nameAt at (some n) = part at n ∷ []
+
+-- what the extensions put into the report, from a place of the hello on, is what the bytes of a body at a place hold
+abbrev pub Shows : Kind → ℕ → List Extension → ℕ → List ℕ → Type 0
+Shows name block es at bs = gathered namesIn block es ≡ nameAt (at + 5) (serverName bs)
+Shows groups block es at bs = gathered groupsIn block es ≡ orEmpty (wordList 2 bs)
+Shows algorithms block es at bs = gathered algorithmsIn block es ≡ orEmpty (wordList 2 bs)
+Shows protocols block es at bs = gathered protocolsIn block es ≡ placed (at + 2) (orEmpty (protocolNames bs))
+Shows versions block es at bs = gathered versionsIn block es ≡ orEmpty (wordList 1 bs)
+Shows shares block es at bs = gathered sharesIn block es ≡ map groupOf (orEmpty (keyShares bs))
+Shows parameters block es at bs = gathered idsIn block es ≡ map idOf (orEmpty (transportParameters bs))
+Shows other block es at bs = Unit {0}
+
+-- each of these types has its mark, at its rest by 64
+abbrev pub Marked : List ℕ → List Bool → Type 0
+Marked ts marks = (t : ℕ) → member t ts ≡ true → getD marks (t % 64) false ≡ true
+
+-- the extension whose header stands at a place
+pub record HeaderFound (h : List ℕ) (at t start end : ℕ) : Type 0 where
+  pub is : oneExtension (drop at h) ≡ some (entry (record { type = t; bytes = take (end - start) (drop start h) }) (drop end h))
+  pub after-header : start ≡ at + 4
+  pub forward : start ≤ end
+  pub inside : end ≤ length h
+
+abbrev pub HeaderAs : Step → List ℕ → ℕ → Type 0
+HeaderAs (step.Next t start end) h at = HeaderFound h at t start end
+HeaderAs (step.Refused n) h at = oneExtension (drop at h) ≡ none
+
+-- the next extension at a place, after others of these types
+pub record StepFound (h : List ℕ) (at t start end : ℕ) (known : List ℕ) : Type 0 where
+  pub found : Body
+  pub body-is : bodyOf (kind t) (take (end - start) (drop start h)) ≡ some found
+  pub is : (done : List Extension) → map typeOf done ≡ known → extension done (drop at h) ≡ result (entry (record { type = t; body = found }) (drop end h))
+  pub good : asked (kind t) (take (end - start) (drop start h)) ≡ 0
+  pub new : member t known ≡ false
+  pub room : length known < 64
+  pub after-header : start ≡ at + 4
+  pub forward : start ≤ end
+  pub inside : end ≤ length h
+
+abbrev pub StepAs : Step → List ℕ → ℕ → List ℕ → Type 0
+StepAs (step.Next t start end) h at known = StepFound h at t start end known
+StepAs (step.Refused n) h at known = ((done : List Extension) → map typeOf done ≡ known → extension done (drop at h) ≡ refused n) × IsNumber n
+
+-- a note lies inside the hello; the body there was found good, or the extension is not there and the note is empty
+pub record Noted (h : List ℕ) (block : ℕ) (es : List Extension) (k : Kind) (s : Span) : Type 0 where
+  pub inside : s .start + s .length ≤ length h
+  pub good : 0 < s .length → asked k (partOf h s) ≡ 0
+  pub shows : Shows k block es (s .start) (partOf h s)
+
+pub record Surveyed (h : List ℕ) (block : ℕ) (r : Survey) : Type 0 where
+  pub found : List Extension
+  pub is : allExtensions (drop block h) ≡ result found
+  pub count-is : r .count ≡ length found
+  pub few : length found ≤ 64
+  pub types-are : r .types ≡ padded 64 (extType 0) (map extType (map typeOf found))
+  pub notes : (k : Kind) → Noted h block found k (getD (r .bodies) (slot k) (span 0 0))
+
+-- the walk from a place on, after the extensions that were found
+unfoldable pub onward : List ℕ → ℕ → List Extension → ℕ → Answer (List Extension)
+onward h block found at = walk (length (drop block h) - length found) found (drop at h)
+
+-- the body is of the kind that the type has
+abbrev pub HasKind : Extension → Type 0
+HasKind e = kindOf (e .body) ≡ kind (e .type)
+
+-- the walk's state before each extension
+pub record Walking (h : List ℕ) (block at count : ℕ) (types : List ExtType) (known : List ℕ) (marks : List Bool) (bodies : List Span) : Type 0 where
+  pub found : List Extension
+  pub is : allExtensions (drop block h) ≡ onward h block found at
+  pub place : at ≡ block + length (encodeExtensions found)
+  pub inside : at ≤ length h
+  pub count-is : count ≡ length found
+  pub few : length found ≤ 64
+  pub types-are : types ≡ padded 64 (extType 0) (map extType (map typeOf found))
+  pub known-are : known ≡ padded 64 0 (map typeOf found)
+  pub marks-long : length marks ≡ 64
+  pub marked : Marked (map typeOf found) marks
+  pub kinds : All HasKind found
+  pub bodies-long : length bodies ≡ 8
+  pub notes : (k : Kind) → Noted h block found k (getD bodies (slot k) (span 0 0))
+
+-- 0 where the walk came to the end, else the number of the refusal
+pub record SurveyAs (h : List ℕ) (block : ℕ) (r : Survey) : Type 0 where
+  pub accepted : r .number ≡ 0 → Surveyed h block r
+  pub refuses : 0 < r .number → allExtensions (drop block h) ≡ refused (r .number)
+  pub bound : r .number ≤ 27
+
+-- ---- The report from what was found
+
+abbrev pub noteOf : Survey → Kind → Span
+noteOf r k = getD (r .bodies) (slot k) (span 0 0)
+
+-- the name in a body of server_name: after the list's length, the name's type and its own length
+unfoldable pub nameIn : Span → Sni
+nameIn s = cond (ltb (s .length) 5) Absent (At (span (s .start + 5) (s .length - 5)))
+
+-- what the head and the walk found lies inside the hello, and each body was found good
+pub record Readable (h : List ℕ) (suites : Span) (r : Survey) : Type 0 where
+  pub suites-inside : suites .start + suites .length ≤ length h
+  pub suites-few : suites .length ≤ 128
+  pub short : length h ≤ 16384
+  pub inside : (k : Kind) → noteOf r k .start + noteOf r k .length ≤ length h
+  pub good : (k : Kind) → 0 < noteOf r k .length → asked k (partOf h (noteOf r k)) ≡ 0
+
+-- what was found is that of a ClientHello
+pub record FoundOf (h : List ℕ) (session : ℕ) (suites : Span) (r : Survey) (v : ClientHello) : Type 0 where
+  pub session-is : length (v .sessionId) ≡ session
+  pub suites-are : v .cipherSuites ≡ wordsIn (partOf h suites)
+  pub count-is : r .count ≡ length (v .extensions)
+  pub types-are : r .types ≡ padded 64 (extType 0) (map extType (map typeOf (v .extensions)))
+  pub notes : (k : Kind) → Noted h (blockPlace v) (v .extensions) k (noteOf r k)
+
+-- the report of that ClientHello
+pub record Reported (h : List ℕ) (session : ℕ) (suites : Span) (found : Survey) (r : Fingerprint) : Type 0 where
+  pub is : (v : ClientHello) → FoundOf h session suites found v → r ≡ shown (report v)
+
+-- the number of a type
+abbrev pub typeNumber : ExtType → ℕ
+typeNumber t = t .0

@@ -1,0 +1,5 @@
+pub mod ClientHello
+pub mod Reader
+pub mod Report
+pub mod Calls
+pub mod Code

@@ -1,0 +1,185 @@
+// The walk over the extensions: it only checks, and notes where the bodies stand that the report reads. Questions 20 to 23, for one
+// extension before the next.
+ghost use Prim.Native.Nat.{_%_, _≤_};
+ghost use mathlib.Core.Path.{_≡_};
+ghost use lib.ListN.{length, take};
+ghost use Rattle.wire.specs.Sums.{member};
+ghost use Rattle.fingerprint_bodies.specs.Body.{kind};
+ghost use Rattle.fingerprint_bodies.specs.Code.{asked};
+ghost use Rattle.fingerprint.specs.Code as code;
+ghost use Rattle.fingerprint.specs.Code.{Marked, HeaderAs, StepAs, SurveyAs};
+use fingerprint_lists::Span;
+use profiles::ExtType;
+use wire::be16;
+
+// What the walk found: the number of the refusal, or 0, the types, and for each kind of body the part of the hello that holds it, empty
+// where there is none.
+pub struct Survey {
+    pub number: u64,
+    pub types: [ExtType; 64],
+    pub count: usize,
+    pub bodies: [Span; 8],
+}
+
+// One extension: its type and its body's ends; or the number of the refusal.
+pub enum Step {
+    Next(u16, usize, usize),
+    Refused(u64),
+}
+
+// The place in a survey's bodies for each kind of body; the last is for those that are not read.
+fn slot(t: u16) -> usize
+    ensures { λ r. ⌜ r ≡ code.slot (kind t) ⌝ }
+{
+    match t {
+        0x0000 => 0,
+        0x000a => 1,
+        0x000d => 2,
+        0x0010 => 3,
+        0x002b => 4,
+        0x0033 => 5,
+        0x0039 => 6,
+        _ => 7,
+    }
+}
+
+// The questions of a body: each goes to its own reader.
+fn ask_body(t: u16, body: &[u8]) -> u64
+    ensures { λ r. ⌜ r ≡ asked (kind t) (now (body .entry)) ⌝ }
+{
+    match t {
+        0x0000 => fingerprint_bodies::ask_name(body),
+        0x000a => fingerprint_bodies::ask_words(body, 2),
+        0x000d => fingerprint_bodies::ask_words(body, 2),
+        0x0010 => fingerprint_bodies::ask_protocols(body),
+        0x002b => fingerprint_bodies::ask_words(body, 1),
+        0x0033 => fingerprint_bodies::ask_shares(body),
+        0x0039 => fingerprint_parameters::ask_parameters(body),
+        _ => 0,
+    }
+}
+
+// The type is among the first `count`.
+fn among(known: &[u16; 64], count: usize, t: u16) -> bool
+    requires { ⌜ (count ≤ 64) × (length (now known) ≡ 64) ⌝ }
+    ensures { λ r. ⌜ r ≡ member t (take count (now (known .entry))) ⌝ }
+{
+    let mut i: usize = 0;
+    while i < count {
+        if t == known[i] {
+            return true;
+        }
+        i = i + 1;
+    }
+    false
+}
+
+// The mark of a type: its rest by 64. A type is looked up among those before it only where one of them has the same mark.
+fn mark(t: u16) -> usize
+    ensures { λ r. ⌜ r ≡ t % 64 ⌝ }
+{
+    (t % 64) as usize
+}
+
+fn is_known(known: &[u16; 64], count: usize, marks: &[bool; 64], t: u16) -> bool
+    requires { ⌜ (count ≤ 64) × (length (now known) ≡ 64) × (length (now marks) ≡ 64) × Marked (take count (now known)) (now marks) ⌝ }
+    ensures { λ r. ⌜ r ≡ member t (take count (now (known .entry))) ⌝ }
+{
+    if marks[mark(t)] {
+        return among(known, count, t);
+    }
+    false
+}
+
+// The header of the extension at a place: its type and its body's ends; 20 where header or body are not inside the block.
+fn header(hello: &[u8], at: usize) -> Step
+    requires { ⌜ (at ≤ length (now hello)) × (length (now hello) ≤ 16384) ⌝ }
+    ensures { λ r. ⌜ HeaderAs r (now (hello .entry)) at ⌝ }
+{
+    let n = hello.len();
+    if n - at < 4 {
+        return Step::Refused(20);
+    }
+    let length = be16(&hello[at + 2..]) as usize;
+    let start = at + 4;
+    if n - start < length {
+        return Step::Refused(20);
+    }
+    Step::Next(be16(&hello[at..]), start, start + length)
+}
+
+// The questions of the extension at a place, after `count` others.
+fn extension(hello: &[u8], at: usize, known: &[u16; 64], count: usize, marks: &[bool; 64]) -> Step
+    requires { ⌜ (at ≤ length (now hello)) × (length (now hello) ≤ 16384) × (count ≤ 64) × (length (now known) ≡ 64) × (length (now marks) ≡ 64) × Marked (take count (now known)) (now marks) ⌝ }
+    ensures { λ r. ⌜ StepAs r (now (hello .entry)) at (take count (now (known .entry))) ⌝ }
+{
+    let Step::Next(t, start, end) = header(hello, at) else {
+        return Step::Refused(20);
+    };
+    if is_known(known, count, marks, t) {
+        return Step::Refused(21);
+    }
+    let number = ask_body(t, &hello[start..end]);
+    if number != 0 {
+        return Step::Refused(number);
+    }
+    if 64 <= count {
+        return Step::Refused(23);
+    }
+    Step::Next(t, start, end)
+}
+
+fn refused(number: u64) -> Survey
+    ensures { λ r. ⌜ r .number ≡ number ⌝ }
+{
+    Survey {
+        number,
+        types: [ExtType(0); 64],
+        count: 0,
+        bodies: [Span {
+            start: 0,
+            length: 0,
+        }; 8],
+    }
+}
+
+// The whole block, from a place on. The types stand in a second array as numbers, for an array of structs cannot be lent.
+pub fn survey_block(hello: &[u8], block: usize) -> Survey
+    requires { ⌜ (block ≤ length (now hello)) × (length (now hello) ≤ 16384) ⌝ }
+    ensures { λ r. ⌜ SurveyAs (now (hello .entry)) block r ⌝ }
+{
+    let n = hello.len();
+    let mut types = [ExtType(0); 64];
+    let mut known: [u16; 64] = [0; 64];
+    let mut marks = [false; 64];
+    let mut bodies = [Span {
+        start: 0,
+        length: 0,
+    }; 8];
+    let mut count: usize = 0;
+    let mut at = block;
+    while at < n {
+        match extension(hello, at, &known, count, &marks) {
+            Step::Next(t, start, end) => {
+                types[count] = ExtType(t);
+                known[count] = t;
+                marks[mark(t)] = true;
+                bodies[slot(t)] = Span {
+                    start,
+                    length: end - start,
+                };
+                count = count + 1;
+                at = end;
+            }
+            Step::Refused(number) => {
+                return refused(number);
+            }
+        }
+    }
+    Survey {
+        number: 0,
+        types,
+        count,
+        bodies,
+    }
+}

@@ -1,0 +1,3 @@
+pub mod GoodLaws
+pub mod FillLaws
+pub mod ReadLaws

@@ -1,0 +1,138 @@
+-- Numbers in a list: looking for one, whether any stands twice, and marks by which most are known to be new. Assumes nothing.
+use Prim.Native.Nat.{ℕ, zero, suc, _+_, _-_, _%_, _≤_, _<_}
+use mathlib.Core.Path.{_≡_, refl, sym, ap, _∙_}
+use mathlib.Core.Bool.{Bool, true, false, _||_, true≢false}
+use mathlib.Core.Logic.{_⊎_, inl, inr, ⊎-elim}
+use mathlib.Core.List.{List, [], _∷_, _++_}
+use native.Mathlib.Nat.{mod-lt, not-suc-le-zero, le-of-suc-le-suc}
+use native.Mathlib.Decide.{ℕ-discrete}
+use native.Mathlib.Numerals.{add-one}
+use native.Mathlib.Omega.{arith}
+use lib.ListN.{length, take, drop, set, getD, length-take, drop-of-length-le}
+use lib.Seq.{take-suc, take-add, drop-cons, getD-take, length-take-le, getD-set-same, getD-set-other}
+use lib.Dec.{eqb, lit<}
+use borrow.Author.Tests.{eq-eqb, ne-eqb, eqb-true}
+use Rattle.wire.specs.Sums.{indicator, count, any, member, distinct}
+use Rattle.wire.proofs.SumLaws.{count-append, count-cons, member-nil, member-none, member-some, distinct-once, once-distinct, indicator-le}
+use Rattle.wire.proofs.ListLaws.{lt-or-le}
+use Rattle.fingerprint_parameters.specs.Code.{Marked}
+
+-- ---- the first number of a list
+
+pub member-first : (x y : ℕ) (l : List ℕ) → x ≡ y → member x (y ∷ l) ≡ true
+unfolding member any
+member-first x y l e = rw (eq-eqb x y e)
+
+pub member-later : (x y : ℕ) (l : List ℕ) → (x ≡ y → ⊥) → member x (y ∷ l) ≡ member x l
+unfolding member any
+member-later x y l e = rw (ne-eqb x y e)
+
+pub distinct-nil : distinct [] ≡ true
+unfolding distinct
+distinct-nil = refl
+
+pub distinct-not : (x : ℕ) (l : List ℕ) → member x l ≡ true → distinct (x ∷ l) ≡ false
+unfolding distinct
+distinct-not x l e = rw e
+
+pub distinct-later : (x : ℕ) (l : List ℕ) → member x l ≡ false → distinct (x ∷ l) ≡ distinct l
+unfolding distinct
+distinct-later x l e = rw e
+
+-- ---- looking for a number among the first n, from place i on
+
+module _ (l : List ℕ) (n i : ℕ) (h : i < n) (k : n ≤ length l) where
+  from : drop i (take n l) ≡ getD l i 0 ∷ drop (i + 1) (take n l)
+  from = rw (add-one i, drop-cons (take n l) i 0 (omega (arith, length-take-le n l k)), getD-take n l i 0 h)
+
+  pub among-here : (x : ℕ) → x ≡ getD l i 0 → member x (drop i (take n l)) ≡ true
+  among-here x e = rw from (member-first x (getD l i 0) (drop (i + 1) (take n l)) e)
+
+  pub among-next : (x : ℕ) → (x ≡ getD l i 0 → ⊥) → member x (drop i (take n l)) ≡ member x (drop (i + 1) (take n l))
+  among-next x e = ap (λ (r : List ℕ). member x r) from ∙ member-later x (getD l i 0) (drop (i + 1) (take n l)) e
+
+pub among-end : (l : List ℕ) (n i x : ℕ) → n ≤ i → member x (drop i (take n l)) ≡ false
+among-end l n i x h = rw (drop-of-length-le (take n l) {i = i} (omega (arith, length-take n l))) (member-nil x)
+
+-- ---- a number after others
+
+pub member-counted : (x : ℕ) (l : List ℕ) → member x l ≡ true → 0 < count x l
+member-counted x l e = ⊎-elim (λ p. p) (λ q. absurd (true≢false (sym e ∙ member-none x l (omega arith)))) (lt-or-le 0 (count x l))
+
+count-one : (x y : ℕ) → count x (y ∷ []) ≡ indicator (eqb x y)
+count-one x y = omega (arith, count-cons x y [], member-some x [] (member-nil x))
+
+member-last : (x y : ℕ) (l : List ℕ) → (x ≡ y → ⊥) → member x (l ++ (y ∷ [])) ≡ true → member x l ≡ true
+member-last x y l o e = go (member x l) refl
+  where
+    go : (t : Bool) → member x l ≡ t → t ≡ true
+    go true q = refl
+    go false q =
+        let none-there : count x (l ++ (y ∷ [])) ≡ 0 =
+        omega (arith, count-append x l (y ∷ []), count-one x y, ap indicator (ne-eqb x y o), member-some x l q) in
+        absurd (true≢false (sym e ∙ member-none x (l ++ (y ∷ [])) none-there))
+
+distinct-last : (x : ℕ) (l : List ℕ) → distinct l ≡ true → member x l ≡ false → distinct (l ++ (x ∷ [])) ≡ true
+distinct-last x l d m = once-distinct (l ++ (x ∷ [])) once
+  where
+    once : (y : ℕ) → count y (l ++ (x ∷ [])) ≤ 1
+    once y = go (ℕ-discrete y x)
+      where
+        go : Dec (y ≡ x) → count y (l ++ (x ∷ [])) ≤ 1
+        go (yes p) = rw p (omega (arith, count-append x l (x ∷ []), count-one x x, member-some x l m, indicator-le (eqb x x)))
+        go (no q) = omega (arith, count-append y l (x ∷ []), count-one y x, ap indicator (ne-eqb y x q), distinct-once l d y)
+
+-- ---- place i of a list, whose first numbers are known
+
+module _ (l : List ℕ) (i : ℕ) (h : i < length l) where
+  one-more : take (i + 1) l ≡ take i l ++ (getD l i 0 ∷ [])
+  one-more = rw (add-one i) (take-suc l i 0 h)
+
+  pub new-next : distinct (take i l) ≡ true → member (getD l i 0) (take i l) ≡ false → distinct (take (i + 1) l) ≡ true
+  new-next d m = rw one-more (distinct-last (getD l i 0) (take i l) d m)
+
+  -- the number stands before its place too, so it stands twice among the first n
+  pub new-not : (n : ℕ) → i < n → member (getD l i 0) (take i l) ≡ true → distinct (take n l) ≡ false
+  new-not n k m = go (distinct (take n l)) refl
+    where
+      go : (t : Bool) → distinct (take n l) ≡ t → t ≡ false
+      go false e = refl
+      go true e =
+          let x = getD l i 0 in
+          let z : i + 1 + (n - (i + 1)) ≡ n = omega arith in
+          let more : take n l ≡ take (i + 1) l ++ take (n - (i + 1)) (drop (i + 1) l) = rw z at (take-add (i + 1) (n - (i + 1)) l) in
+          let twice : count x (take n l) ≡ count x (take i l) + 1 + count x (take (n - (i + 1)) (drop (i + 1) l)) =
+          rw (more, one-more, count-append, count-append, count-one x x, eq-eqb x x refl) in
+          absurd (omega (arith, twice, member-counted x (take i l) m, distinct-once (take n l) e x))
+
+  -- the mark of the number is set
+  pub marked-next : (marks : List Bool) → length marks ≡ 64 → Marked marks (take i l) → Marked (set marks (getD l i 0 % 64) true) (take (i + 1) l)
+  marked-next marks s m x e = go (ℕ-discrete (x % 64) (getD l i 0 % 64))
+    where
+      go : Dec (x % 64 ≡ getD l i 0 % 64) → getD (set marks (getD l i 0 % 64) true) (x % 64) false ≡ true
+      go (yes p) = rw p (getD-set-same marks (getD l i 0 % 64) true false (omega (arith, s)))
+      go (no q) =
+          rw (getD-set-other marks (getD l i 0 % 64) (x % 64) true false q)
+          (m x (member-last x (getD l i 0) (take i l) (λ z. q (ap (λ (n : ℕ). n % 64) z)) (rw one-more at e)))
+
+pub new-start : (l : List ℕ) → distinct (take 0 l) ≡ true
+new-start l = distinct-nil
+
+pub marked-start : (marks : List Bool) (l : List ℕ) → Marked marks (take 0 l)
+marked-start marks l x e = absurd (true≢false (sym e ∙ member-nil x))
+
+pub unmarked-new : (marks : List Bool) (l : List ℕ) (x : ℕ) → Marked marks l → getD marks (x % 64) false ≡ false → member x l ≡ false
+unmarked-new marks l x m e = go (member x l) refl
+  where
+    go : (t : Bool) → member x l ≡ t → t ≡ false
+    go false q = refl
+    go true q = absurd (true≢false (sym (m x q) ∙ e))
+
+-- ---- two lists that agree place by place
+
+pub take-same : (l new : List ℕ) → length l ≤ length new → ((i : ℕ) → i < length l → getD new i 0 ≡ getD l i 0) → take (length l) new ≡ l
+take-same [] new h e = refl
+take-same (x ∷ l) [] h e = absurd (not-suc-le-zero h)
+take-same (x ∷ l) (y ∷ new) h e =
+    let first : y ≡ x = e 0 (omega arith) in
+    rw first (ap (λ (r : List ℕ). x ∷ r) (take-same l new (le-of-suc-le-suc h) (λ i p. e (suc i) (omega arith))))

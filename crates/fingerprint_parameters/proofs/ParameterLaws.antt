@@ -1,0 +1,193 @@
+-- The parameters of a body one by one: each takes a byte or more, so what follows it is read like a body of its own. Assumes nothing.
+use Prim.Native.Nat.{ℕ, zero, suc, _+_, _-_, _≤_, _<_}
+use mathlib.Core.Path.{_≡_, refl, sym, ap, _∙_}
+use mathlib.Core.Bool.{Bool, true, false, cond}
+use mathlib.Core.List.{List, [], _∷_, map}
+use mathlib.Core.Option.{Option, none, some}
+use native.Mathlib.Nat.{le-refl}
+use native.Mathlib.Omega.{arith}
+use lib.ListN.{length, take, drop, length-drop, drop-of-length-le}
+use lib.Seq.{drop-drop}
+use lib.Dec.{leb}
+use Rattle.wire.specs.Answer.{Answer, result, refused}
+use Rattle.wire.specs.Numbers.{Bytes}
+use Rattle.wire.specs.Sums.{member, distinct}
+use Rattle.wire.proofs.NumberLaws.{bytes-drop}
+use Rattle.varint.specs.Varint.{classAt, readOf}
+use Rattle.varint.specs.declared.Varint.{Varint}
+use Rattle.varint.proofs.TableLaws.{width-positive}
+use Rattle.varint.proofs.RoundTrip.{read-formed}
+use Rattle.fingerprint_bodies.specs.Entries.{Entry, entry, bind, mapped, orEmpty, taken, first, entries, allEntries}
+use Rattle.fingerprint_bodies.specs.Body.{Number, Parameter}
+use Rattle.fingerprint_bodies.specs.Forms.{varintFound, varintAt, oneParameter, transportParameters, idOf}
+use Rattle.fingerprint_bodies.proofs.EntryLaws.{There, there-first, or-first, there-not}
+use Rattle.fingerprint_parameters.specs.Code.{ParameterFound, idsOf}
+
+-- ---- what stands before a piece that is there
+
+record Bound {A B : Type 0} (x : Option A) (f : A → Option B) (b : B) : Type 0 where
+  value : A
+  is : x ≡ some value
+  after : f value ≡ some b
+
+bind-some : {A B : Type 0} (x : Option A) (f : A → Option B) (b : B) → bind x f ≡ some b → Bound x f b
+unfolding bind
+bind-some none f b e = absurd (let z : _≡_ {A = ℕ} 0 1 = cc in omega arith)
+bind-some (some a) f b e = record { value = a; is = refl; after = e }
+
+taken-rest : (n : ℕ) (bs : List ℕ) (e : Entry (List ℕ)) → taken n bs ≡ some e → e .rest ≡ drop n bs
+unfolding taken
+taken-rest n bs e q = go (leb n (length bs)) q
+  where
+    go : (t : Bool) → cond t (some (entry (take n bs) (drop n bs))) none ≡ some e → e .rest ≡ drop n bs
+    go true q =
+        let z : entry (take n bs) (drop n bs) ≡ e = cc in
+        sym (ap (λ (x : Entry (List ℕ)). x .rest) z)
+    go false q = absurd (let z : _≡_ {A = ℕ} 0 1 = cc in omega arith)
+
+-- the bytes from some place on
+record From (least : ℕ) (bs rest : List ℕ) : Type 0 where
+  used : ℕ
+  some : least ≤ used
+  is : rest ≡ drop used bs
+
+varint-rest : (bs : List ℕ) (e : Entry Number) → Bytes bs → varintAt bs ≡ some e → From 1 bs (e .rest)
+unfolding varintAt
+varint-rest bs e b q = go (readOf bs) refl q
+  where
+    go : (a : Answer Varint) → readOf bs ≡ a → varintFound bs a ≡ some e → From 1 bs (e .rest)
+    go (refused n) r q = absurd (let z : _≡_ {A = ℕ} 0 1 = cc in omega arith)
+    go (result x) r q =
+        let formed = read-formed bs x b r in
+        let z : entry (record { class = classAt bs; number = x .value }) (drop (x .width) bs) ≡ e = cc in
+        record {
+          used = x .width;
+          some = rw (formed .wide) (width-positive (classAt bs) (formed .known));
+          is = sym (ap (λ (y : Entry Number). y .rest) z);
+        }
+
+third : (bs a b c : List ℕ) (x y z : ℕ) → a ≡ drop x bs → b ≡ drop y a → c ≡ drop z b → c ≡ drop (x + y + z) bs
+third bs a b c x y z p q r = let e : x + y + z ≡ x + (y + z) = omega arith in r ∙ rw (q, p, drop-drop, drop-drop, e)
+
+parameter-rest : (bs : List ℕ) (e : Entry Parameter) → Bytes bs → oneParameter bs ≡ some e → From 1 bs (e .rest)
+unfolding oneParameter
+parameter-rest bs e b q =
+    let i = bind-some (varintAt bs) _ e q in
+    let id = varint-rest bs (i .value) b (i .is) in
+    let bytes : Bytes (i .value .rest) = rw (id .is) (bytes-drop (id .used) bs b) in
+    let n = bind-some (varintAt (i .value .rest)) _ e (i .after) in
+    let size = varint-rest (i .value .rest) (n .value) bytes (n .is) in
+    let v = bind-some (taken (n .value .value .number) (n .value .rest)) _ e (n .after) in
+    let value : v .value .rest ≡ drop (n .value .value .number) (n .value .rest) =
+    taken-rest (n .value .value .number) (n .value .rest) (v .value) (v .is) in
+    let z : v .value .rest ≡ e .rest = ap (λ (o : Option (Entry Parameter)). restOr (e .rest) o) (v .after) in
+    record {
+      used = id .used + size .used + n .value .value .number;
+      some = omega (arith, id .some);
+      is = sym z ∙ third bs (i .value .rest) (n .value .rest) (v .value .rest) (id .used) (size .used) (n .value .value .number) (id .is) (size .is) value;
+    }
+  where
+    restOr : List ℕ → Option (Entry Parameter) → List ℕ
+    restOr r none = r
+    restOr r (some x) = x .rest
+
+-- ---- fuel beyond the bytes changes nothing
+
+agree : {A B : Type 0} (x : Option A) (f g : A → Option B) → ((a : A) → x ≡ some a → f a ≡ g a) → bind x f ≡ bind x g
+unfolding bind
+agree none f g h = refl
+agree (some a) f g h = h a refl
+
+parameters-fuel : (f g : ℕ) (bs : List ℕ) → Bytes bs → length bs ≤ f → length bs ≤ g → entries oneParameter f bs ≡ entries oneParameter g bs
+unfolding entries
+parameters-fuel zero zero bs b hf hg = refl
+parameters-fuel zero (suc g) [] b hf hg = refl
+parameters-fuel zero (suc g) (x ∷ r) b hf hg = absurd (omega arith)
+parameters-fuel (suc f) zero [] b hf hg = refl
+parameters-fuel (suc f) zero (x ∷ r) b hf hg = absurd (omega arith)
+parameters-fuel (suc f) (suc g) [] b hf hg = refl
+parameters-fuel (suc f) (suc g) (x ∷ r) b hf hg =
+    agree (oneParameter (x ∷ r)) (λ e. first (e .value) (entries oneParameter f (e .rest))) (λ e. first (e .value) (entries oneParameter g (e .rest)))
+    (λ e q.
+    let after = parameter-rest (x ∷ r) e b q in
+    let bytes : Bytes (e .rest) = rw (after .is) (bytes-drop (after .used) (x ∷ r) b) in
+    let short : length (e .rest) ≤ length r = rw (after .is) (omega (arith, after .some, length-drop (after .used) (x ∷ r))) in
+    ap (λ (o : Option (List Parameter)). first (e .value) o) (parameters-fuel f g (e .rest) bytes (omega (arith, short)) (omega (arith, short))))
+
+-- ---- a body from its front
+
+pub parameters-end : (bs : List ℕ) → length bs ≡ 0 → transportParameters bs ≡ some []
+unfolding transportParameters allEntries entries
+parameters-end [] h = refl
+parameters-end (x ∷ r) h = absurd (omega arith)
+
+pub parameters-cut : (bs : List ℕ) → 0 < length bs → oneParameter bs ≡ none → transportParameters bs ≡ none
+unfolding transportParameters allEntries entries bind
+parameters-cut [] h e = absurd (omega arith)
+parameters-cut (x ∷ r) h e = rw e
+
+parameters-next : (bs : List ℕ) (v : Parameter) (used : ℕ) → Bytes bs → 0 < length bs → 1 ≤ used → oneParameter bs ≡ some (entry v (drop used bs))
+    → transportParameters bs ≡ first v (transportParameters (drop used bs))
+unfolding transportParameters allEntries entries bind
+parameters-next [] v used b h u e = absurd (omega arith)
+parameters-next (x ∷ r) v used b h u e =
+    rw e (ap (λ (o : Option (List Parameter)). first v o)
+    (parameters-fuel (length r) (length (drop used (x ∷ r))) (drop used (x ∷ r)) (bytes-drop used (x ∷ r) b)
+    (omega (arith, length-drop used (x ∷ r))) (le-refl (length (drop used (x ∷ r))))))
+
+-- ---- a body from a place on
+
+-- the ids of a body that is in its form
+abbrev pub idsIn : List ℕ → List ℕ
+idsIn bs = map idOf (orEmpty (transportParameters bs))
+
+module _ (l : List ℕ) (at : ℕ) (i : at < length l) where
+  some-left : 0 < length (drop at l)
+  some-left = omega (arith, length-drop at l)
+
+  pub cut-there : oneParameter (drop at l) ≡ none → There (transportParameters (drop at l)) → ⊥
+  cut-there e t = there-not (transportParameters (drop at l)) t (parameters-cut (drop at l) some-left e)
+
+  pub ids-cut : oneParameter (drop at l) ≡ none → idsOf (drop at l) ≡ none
+  unfolding idsOf mapped
+  ids-cut e = rw (parameters-cut (drop at l) some-left e)
+
+  module _ (b : Bytes l) (id used : ℕ) (f : ParameterFound (drop at l) id used) where
+    next-is : transportParameters (drop at l) ≡ first (f .found) (transportParameters (drop (at + used) l))
+    next-is = rw (drop-drop used at l) at (parameters-next (drop at l) (f .found) used (bytes-drop at l b) some-left (f .some) (f .is))
+
+    pub next-within : at + used ≤ length l
+    next-within = omega (arith, f .within, length-drop at l)
+
+    pub next-ids-of : idsOf (drop at l) ≡ mapped (λ r. id ∷ r) (idsOf (drop (at + used) l))
+    unfolding idsOf mapped first
+    next-ids-of = rw next-is (go (transportParameters (drop (at + used) l)))
+      where
+        go : (x : Option (List Parameter)) → mapped (λ r. map idOf r) (first (f .found) x) ≡ mapped (λ r. id ∷ r) (mapped (λ r. map idOf r) x)
+        go none = refl
+        go (some r) = rw (f .id-is)
+
+    module _ (t : There (transportParameters (drop at l))) where
+      next-some : There (first (f .found) (transportParameters (drop (at + used) l)))
+      next-some = rw next-is at t
+
+      pub next-there : There (transportParameters (drop (at + used) l))
+      next-there = there-first (f .found) (transportParameters (drop (at + used) l)) next-some
+
+      pub next-ids : idsIn (drop at l) ≡ id ∷ idsIn (drop (at + used) l)
+      next-ids =
+          ap (λ (x : Option (List Parameter)). map idOf (orEmpty x)) next-is
+          ∙ ap (λ (r : List Parameter). map idOf r) (or-first (f .found) (transportParameters (drop (at + used) l)) next-some)
+          ∙ ap (λ (n : ℕ). n ∷ idsIn (drop (at + used) l)) (f .id-is)
+
+module _ (l : List ℕ) (at : ℕ) (h : length l ≤ at) where
+  none-left : transportParameters (drop at l) ≡ some []
+  none-left = parameters-end (drop at l) (omega (arith, length-drop at l))
+
+  pub ids-end : idsIn (drop at l) ≡ []
+  unfolding orEmpty
+  ids-end = rw none-left
+
+  pub ids-of-end : idsOf (drop at l) ≡ some []
+  unfolding idsOf mapped
+  ids-of-end = rw none-left

@@ -1,0 +1,159 @@
+// The body of the transport parameters (extension 0039; RFC 9000, section 18): ids, each with a length and a value. Document 01,
+// questions 21 to 23 for this body.
+ghost use mathlib.Core.Path.{_≡_};
+ghost use mathlib.Core.List.{map};
+ghost use mathlib.Core.Option.{some};
+ghost use Prim.Native.Nat.{_≤_};
+ghost use lib.ListN.{length, take};
+ghost use Rattle.wire.specs.Sums.{member, distinct};
+ghost use Rattle.fingerprint_bodies.specs.Entries.{orEmpty};
+ghost use Rattle.fingerprint_bodies.specs.Body.{parameters};
+ghost use Rattle.fingerprint_bodies.specs.Forms.{transportParameters, idOf};
+ghost use Rattle.fingerprint_bodies.specs.Code.{asked};
+ghost use Rattle.fingerprint_parameters.specs.Code.{ParameterAs, idsOf, Kept};
+use varint::Got;
+
+// A parameter at the front of some bytes: its id, and the bytes that it takes.
+pub enum Parameter {
+    Whole(u64, usize),
+    Cut,
+}
+
+// How many entries a list has; or one is cut.
+pub enum Count {
+    Are(usize),
+    Cut,
+}
+
+// Id and length in varints of any width, and a value of that length.
+pub fn one_parameter(rest: &[u8]) -> Parameter
+    ensures { λ r. ⌜ ParameterAs r (now (rest .entry)) ⌝ }
+{
+    let Got::Value(id) = varint::read(rest) else {
+        return Parameter::Cut;
+    };
+    let at = id.width;
+    let Got::Value(length) = varint::read(&rest[at..]) else {
+        return Parameter::Cut;
+    };
+    let head = at + length.width;
+    if ((rest.len() - head) as u64) < length.value {
+        return Parameter::Cut;
+    }
+    Parameter::Whole(id.value, head + length.value as usize)
+}
+
+// Counts the parameters, and keeps the ids of the first 64.
+fn read_ids(body: &[u8], ids: &mut [u64; 64]) -> Count
+    requires { ⌜ length (now ids) ≡ 64 ⌝ }
+    ensures { λ r. ⌜ Kept (idsOf (now (body .entry))) r (now (ids .exit)) ⌝ }
+{
+    let n = body.len();
+    let mut at: usize = 0;
+    let mut k: usize = 0;
+    while at < n {
+        let Parameter::Whole(id, used) = one_parameter(&body[at..]) else {
+            return Count::Cut;
+        };
+        if k < 64 {
+            ids[k] = id;
+        }
+        at = at + used;
+        k = k + 1;
+    }
+    Count::Are(k)
+}
+
+// The id is among the first n.
+fn among(ids: &[u64; 64], n: usize, id: u64) -> bool
+    requires { ⌜ (n ≤ 64) × (length (now ids) ≡ 64) ⌝ }
+    ensures { λ r. ⌜ r ≡ member id (take n (now (ids .entry))) ⌝ }
+{
+    let mut i: usize = 0;
+    while i < n {
+        if ids[i] == id {
+            return true;
+        }
+        i = i + 1;
+    }
+    false
+}
+
+// No two of the first n are equal. An id is looked up among those before it only where one of them leaves the same rest by 64.
+fn all_new(ids: &[u64; 64], n: usize) -> bool
+    requires { ⌜ (n ≤ 64) × (length (now ids) ≡ 64) ⌝ }
+    ensures { λ r. ⌜ r ≡ distinct (take n (now (ids .entry))) ⌝ }
+{
+    let mut marks = [false; 64];
+    let mut i: usize = 0;
+    while i < n {
+        let id = ids[i];
+        let k = (id % 64) as usize;
+        if marks[k] {
+            if among(ids, i, id) {
+                return false;
+            }
+        }
+        marks[k] = true;
+        i = i + 1;
+    }
+    true
+}
+
+// The id stands among the parameters.
+fn has_id(list: &[u8], id: u64) -> bool
+    requires { ⌜ transportParameters (now list) ≡ some (orEmpty (transportParameters (now list))) ⌝ }
+    ensures { λ r. ⌜ r ≡ member id (map idOf (orEmpty (transportParameters (now (list .entry))))) ⌝ }
+{
+    let n = list.len();
+    let mut at: usize = 0;
+    while at < n {
+        let Parameter::Whole(i, used) = one_parameter(&list[at..]) else {
+            return false;
+        };
+        if id == i {
+            return true;
+        }
+        at = at + used;
+    }
+    false
+}
+
+// No id stands twice in the body, however many there are: each is looked for among those after it.
+pub fn ids_new(body: &[u8]) -> bool
+    requires { ⌜ transportParameters (now body) ≡ some (orEmpty (transportParameters (now body))) ⌝ }
+    ensures { λ r. ⌜ r ≡ distinct (map idOf (orEmpty (transportParameters (now (body .entry))))) ⌝ }
+{
+    let n = body.len();
+    let mut at: usize = 0;
+    while at < n {
+        let Parameter::Whole(id, used) = one_parameter(&body[at..]) else {
+            return false;
+        };
+        at = at + used;
+        if has_id(&body[at..], id) {
+            return false;
+        }
+    }
+    true
+}
+
+// Body in its form? 21 Ids all new? 22 At most 64 of them? 23
+pub fn ask_parameters(body: &[u8]) -> u64
+    ensures { λ r. ⌜ r ≡ asked parameters (now (body .entry)) ⌝ }
+{
+    let mut ids = [0u64; 64];
+    let Count::Are(k) = read_ids(body, &mut ids) else {
+        return 21;
+    };
+    if k <= 64 {
+        if all_new(&ids, k) {
+            return 0;
+        }
+        return 22;
+    }
+    if ids_new(body) {
+        return 23;
+    }
+    22
+}

@@ -1,0 +1,9 @@
+pub mod ByteLaws
+pub mod Value
+pub mod ShareLaws
+pub mod ParameterLaws
+pub mod KindLaws
+pub mod BodyLaws
+pub mod GatherLaws
+pub mod ListsShown
+pub mod ReadBack

@@ -1,0 +1,1 @@
+// What the maker makes, the reader reads back (proofs/ReadBack.antt). No code.
