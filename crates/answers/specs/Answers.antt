@@ -5,6 +5,9 @@ use Rattle.wire.specs.Answer.{Answer, result, refused}
 use Rattle.varint.specs.declared.Varint.{Varint}
 use Rattle.tls.specs.declared.Hello.{Hello}
 use Rattle.records.specs.Records.{Found, record-to, end}
+use Rattle.fingerprint.specs.ClientHello.{ClientHello}
+use Rattle.fingerprint.specs.Report.{report}
+use Rattle.reports.specs.Lines.{reportText}
 use Rattle.script.specs.Scan.{space}
 use Rattle.script.specs.Decimal.{decimalText}
 use Rattle.script.specs.Shown.{shownText}
@@ -95,3 +98,8 @@ abbrev pub splitting : Answer Found → List ℕ → Outcome
 splitting (result (record-to after)) part = hands part
 splitting (result end) part = plain
 splitting (refused n) part = number n
+
+-- `report HELLO`: the report's lines, or `refused N`
+abbrev pub reportAnswer : Answer ClientHello → List (List ℕ)
+reportAnswer (result v) = reportText (report v)
+reportAnswer (refused n) = refusedWord ∷ decimalText n ∷ []

@@ -5,12 +5,21 @@ ghost use Rattle.tls.specs.Make.{makeOf, madeBytes, afterMake};
 ghost use Rattle.frames.specs.Join.{join, placedOf, joinOf, outAfter, marksAfter};
 ghost use Rattle.frames.specs.Cut.{framesOf, cutOf, afterCut};
 ghost use Rattle.records.specs.Records.{recordAt, recordOf};
+ghost use Rattle.fingerprint.specs.Reader.{read};
+ghost use Rattle.fingerprint.specs.Calls.{nameOr, extensionSet};
+ghost use Rattle.reports.specs.Lines.{nameAnswer, setText};
 ghost use lib.ListN.{length};
-ghost use Rattle.answers.specs.Said.{plainly, handing, Says, Hands};
-ghost use Rattle.answers.specs.Answers.{sizeParts, writeParts, readParts, makeParts, joinParts, framesParts, splitParts, splitting};
+ghost use Rattle.answers.specs.Said.{plain, hands, plainly, handing, Says, Hands};
+ghost use Rattle.answers.specs.Answers.{sizeParts, writeParts, readParts, makeParts, joinParts, framesParts, splitParts, splitting, reportAnswer};
+use fingerprint::reading::extension_set;
+use fingerprint::reading::name_or;
+use fingerprint::reading::parse_clienthello;
 use frames::cutting::Cut;
 use frames::joining::Joined;
 use records::Next;
+use reports::put_name_answer;
+use reports::put_report;
+use reports::put_set;
 use script::writing::put_bytes_and_number;
 use script::writing::put_number;
 use script::writing::put_number_and_bytes;
@@ -170,4 +179,33 @@ pub fn say_split(place: u64, blob: &[u8], last: &mut [u8], out: &mut [u8]) -> Sa
         Next::End => Said::Answer(put_text(out, b"end")),
         Next::Refused(number) => Said::Refused(put_number(out, b"refused ", number), number),
     }
+}
+
+// report HELLO
+pub fn say_report(hello: &[u8], out: &mut [u8]) -> Said
+    ensures { λ r. ⌜ Says (plainly (read (now (hello .entry)))) (reportAnswer (read (now (hello .entry)))) r (now (out .entry)) (now (out .exit)) ⌝ }
+{
+    let parsed = parse_clienthello(hello);
+    let number = parsed.number;
+    if number != 0 {
+        return Said::Refused(put_number(out, b"refused ", number), number);
+    }
+    Said::Answer(put_report(out, hello, parsed.report))
+}
+
+// name HELLO DEFAULT
+pub fn say_name<'a>(hello: &'a [u8], default: &'a [u8], last: &mut [u8], out: &mut [u8]) -> Said
+    ensures { λ r. ⌜ Hands (hands (nameOr (now (default .entry)) (read (now (hello .entry))))) (nameAnswer (nameOr (now (default .entry)) (read (now (hello .entry))))) r (now (out .entry)) (now (out .exit)) (now (last .entry)) (now (last .exit)) ⌝ }
+{
+    let name = name_or(hello, default);
+    let n = put_name_answer(out, name);
+    Said::Handed(n, put_text(last, name))
+}
+
+// set HELLO
+pub fn say_set(hello: &[u8], out: &mut [u8]) -> Said
+    ensures { λ r. ⌜ Says plain (setText (extensionSet (read (now (hello .entry))))) r (now (out .entry)) (now (out .exit)) ⌝ }
+{
+    let types = extension_set(hello);
+    Said::Answer(put_set(out, types))
 }

@@ -1,2 +1,3 @@
 pub mod SumLaws
 pub mod PartLaws
+pub mod ReadingLaws

@@ -4,8 +4,14 @@ ghost use Prim.Native.Nat.{_^_};
 ghost use Rattle.wire.specs.Answer.{coded};
 ghost use Rattle.varint.specs.Varint.{sizeOf, readOf};
 ghost use Rattle.records.specs.Records.{recordAt};
+ghost use Rattle.fingerprint.specs.Reader.{read};
+ghost use Rattle.fingerprint.specs.Calls.{extensionSet};
+ghost use Rattle.fingerprint.specs.Report.{parsedOf};
+ghost use Rattle.reports.specs.Lines.{setText};
 ghost use Rattle.compare_c.specs.Sums.{codedValue, codedWidth, sumOf, PutCoded};
 ghost use Rattle.compare_c.specs.Calls.{lengthOf, drawnOf, codedNext, JoinCoded, CutCoded, MakeCoded, PartCoded};
+ghost use Rattle.compare_c.specs.Reading.{codedRefusal, added, pickedOf, ReportCoded, TextCoded};
+use answers::Said;
 use frames::cutting::Cut;
 use frames::joining::Joined;
 use records::Next;
@@ -155,4 +161,71 @@ pub extern "C" fn compare_record(blob: &[u8], place: usize, out: &mut [u8]) -> u
         return 4294967296;
     }
     wire::put_bytes(out, part) as u64
+}
+
+// 0 where the hello is accepted, else 2^32 plus the number. No report is built.
+#[no_mangle]
+pub extern "C" fn compare_refusal(hello: &[u8]) -> u64
+    ensures { λ r. ⌜ r ≡ codedRefusal (read (now (hello .entry))) ⌝ }
+{
+    let number = fingerprint::reading::refusal(hello);
+    if number == 0 { 0 } else { 4294967296 + number }
+}
+
+// The length of the report's text, as the command `report` answers it, or 2^32 plus the number.
+#[no_mangle]
+pub extern "C" fn compare_report(hello: &[u8], out: &mut [u8]) -> u64
+    ensures { λ r. ⌜ ReportCoded (read (now (hello .entry))) (now (out .entry)) r (now (out .exit)) ⌝ }
+{
+    match answers::say_report(hello, out) {
+        Said::Answer(n) => n as u64,
+        Said::Handed(n, _) => n as u64,
+        Said::Refused(_, number) => 4294967296 + number,
+        Said::Error(_) => 0,
+    }
+}
+
+// The length of the text that answers the command `set`.
+#[no_mangle]
+pub extern "C" fn compare_set(hello: &[u8], out: &mut [u8]) -> u64
+    ensures { λ r. ⌜ TextCoded (setText (extensionSet (read (now (hello .entry))))) (now (out .entry)) r (now (out .exit)) ⌝ }
+{
+    match answers::say_set(hello, out) {
+        Said::Answer(n) => n as u64,
+        Said::Handed(n, _) => n as u64,
+        Said::Refused(n, _) => n as u64,
+        Said::Error(_) => 0,
+    }
+}
+
+// A 16-bit number added to a sum, modulo 2^64.
+fn add_word(sum: u64, word: u16) -> u64
+    ensures { λ r. ⌜ r ≡ added sum word ⌝ }
+{
+    std::num::wrapping_add_u64(sum, word as u64)
+}
+
+// One place of each list of the report, added up modulo 2^64: the whole report is built, and no list can be left out. To be timed.
+#[no_mangle]
+pub extern "C" fn compare_picked(hello: &[u8], place: usize) -> u64
+    ensures { λ r. ⌜ r ≡ pickedOf (parsedOf (read (now (hello .entry)))) place ⌝ }
+{
+    if 16 <= place {
+        return 0;
+    }
+    let parsed = fingerprint::reading::parse_clienthello(hello);
+    let r = parsed.report;
+    let extension = r.extensions[place];
+    let group = r.supported_groups[place];
+    let share = r.key_share_groups[place];
+    let name = r.alpn[place];
+    let mut sum = parsed.number;
+    sum = add_word(sum, r.cipher_suites[place]);
+    sum = add_word(sum, extension.0);
+    sum = add_word(sum, group.0);
+    sum = add_word(sum, share.0);
+    sum = add_word(sum, r.signature_algorithms[place]);
+    sum = add_word(sum, r.supported_versions[place]);
+    sum = std::num::wrapping_add_u64(sum, name.start as u64);
+    std::num::wrapping_add_u64(sum, r.transport_param_ids[place])
 }

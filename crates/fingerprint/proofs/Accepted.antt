@@ -23,7 +23,7 @@ use Rattle.fingerprint.proofs.WellFormed.{Encodes, accepted-exactly}
 abbrev pub FromReader : ℕ → Type 0
 FromReader n = (16 ≤ n) × (n ≤ 23)
 
-abbrev Numbered : {A : Type 0} → Answer A → Type 0
+abbrev pub Numbered : {A : Type 0} → Answer A → Type 0
 Numbered (result a) = Unit {0}
 Numbered (refused n) = FromReader n
 
@@ -70,7 +70,7 @@ unfolding readBody
 body-numbered bs =
     numbered-form (whole 3 bs) 18 _ (lit≤ tt, lit≤ tt) (λ body. numbered-form (fields body) 19 readExtensions (lit≤ tt, lit≤ tt) fields-numbered)
 
-read-numbered : (h : List ℕ) → Numbered (read h)
+pub read-numbered : (h : List ℕ) → Numbered (read h)
 unfolding read
 read-numbered h =
     numbered-ask (leb (length h) 16384) 16 _ (lit≤ tt, lit≤ tt)

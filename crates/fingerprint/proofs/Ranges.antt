@@ -18,13 +18,8 @@ use Rattle.fingerprint_bodies.proofs.BindLaws.{none-some, same-some}
 use Rattle.fingerprint_lists.specs.Arrays.{Part, placed}
 use Rattle.fingerprint.specs.ClientHello.{Extension, ClientHello, encodeExtension, encodeExtensions, encodeFields, encode, WellFormed}
 use Rattle.fingerprint.specs.Reader.{read}
-use Rattle.fingerprint.specs.Report.{protocolsIn, namesIn, gathered, blockPlace, firstOf, report}
+use Rattle.fingerprint.specs.Report.{protocolsIn, namesIn, gathered, blockPlace, firstOf, report, Lies}
 use Rattle.fingerprint.proofs.WellFormed.{encoded-read}
-
--- the part is inside the hello, and its bytes are the hello's there
-pub record Lies (h : List ℕ) (p : Part) : Type 0 where
-  pub inside : p .start + length (p .bytes) ≤ length h
-  pub is : take (length (p .bytes)) (drop (p .start) h) ≡ p .bytes
 
 -- ---- bytes that stand at a place
 

@@ -1,8 +1,9 @@
 -- The report of a ClientHello: "the fields of `Fingerprint`", and the form in which the code hands them out.
-use Prim.Native.Nat.{ℕ, _+_, _*_}
+use Prim.Native.Nat.{ℕ, _+_, _*_, _≤_}
+use mathlib.Core.Path.{_≡_}
 use mathlib.Core.List.{List, [], _∷_, _++_, map}
 use mathlib.Core.Option.{Option, none, some}
-use lib.ListN.{length}
+use lib.ListN.{length, take, drop}
 use Rattle.wire.specs.Answer.{Answer, result, refused}
 use Rattle.fingerprint_bodies.specs.Body.{Body, server-name, supported-groups, signature-algorithms, application-protocols, supported-versions, key-shares, transport-parameters, unread, encodeBody}
 use Rattle.fingerprint_bodies.specs.Forms.{groupOf, idOf}
@@ -144,6 +145,11 @@ emptyReport = record {
   sni = none;
   transportParamIds = [];
 }
+
+-- a part lies inside the hello, and its bytes are the hello's there
+pub record Lies (h : List ℕ) (p : Part) : Type 0 where
+  pub inside : p .start + length (p .bytes) ≤ length h
+  pub is : take (length (p .bytes)) (drop (p .start) h) ≡ p .bytes
 
 -- ---- As the code hands it out: arrays with counts, zeros past each count, names as ranges
 

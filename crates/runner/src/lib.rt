@@ -1,9 +1,6 @@
 // Runs bench scripts: takes lines from a descriptor and answers each on standard output. The work on text is in the crates `script`
-// and `lines`, the answer to each command in `answers`; here are the calls of the system, and the operands of each command.
-mod commands;
-mod files;
+// and `lines`, each command with its operands in `commands`, its answer in `answers`; here are the lines and the calls of the system.
 mod notes;
-mod operands;
 
 use answers::Fault;
 use answers::Said;

@@ -123,7 +123,7 @@ fn all_hex(text: &[u8]) -> bool
 }
 
 // Whether every byte may stand between the quotes of a text.
-fn all_plain(text: &[u8]) -> bool
+pub fn all_plain(text: &[u8]) -> bool
     ensures { λ r. ⌜ r ≡ all isPlain (now (text .entry)) ⌝ }
 {
     let mut i: usize = 0;

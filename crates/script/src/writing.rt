@@ -60,7 +60,7 @@ pub fn put_decimal(out: &mut [u8], n: u64) -> usize
 }
 
 // The digit that writes a value below 16.
-fn hex_letter(v: u8) -> u8
+pub fn hex_letter(v: u8) -> u8
     requires { ⌜ v < 16 ⌝ }
     ensures { λ r. ⌜ r ≡ hexLetter v ⌝ }
 {

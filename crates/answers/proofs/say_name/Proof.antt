@@ -1,0 +1,46 @@
+-- `say_name` writes the name, and hands it back. Assumes nothing.
+use mathlib.Core.Path.{_≡_}
+use borrow.Author.Needs.{needs}
+use denote.Ref.{now}
+use Rattle.fingerprint.specs.Reader.{read}
+use Rattle.fingerprint.specs.Calls.{nameOr}
+use Rattle.reports.specs.Lines.{nameAnswer}
+use Rattle.answers.proofs.AnswerLaws.{hands-back}
+use Rattle.answers.proofs.say_name.Statement.{statement}
+use Rattle.answers.proofs.say_name.Tie as tie
+
+name-or-requires : tie.Need-name-or-requires
+name-or-requires c κs = search needs
+
+put-name-answer-requires : tie.Need-put-name-answer-requires
+put-name-answer-requires c κs = search needs
+
+put-text-requires : tie.Need-put-text-requires
+put-text-requires c κs = search needs
+
+same-length : tie.Need-same-length
+same-length c = search needs
+
+same-length-2 : tie.Need-same-length-2
+same-length-2 c = search needs
+
+returns : tie.Need-returns
+returns c =
+    let args = c .before .before .before .before .before .before .before .before .before .before .before .before .before .args in
+    let name = c .before .before .before .before .before .before .before .before .name-or in
+    let put = c .before .before .before .before .before .before .put-name-answer in
+    let kept = c .before .before .put-text in
+    rw (← (name .ensures))
+    (hands-back (nameAnswer (now (name .result))) (put .result) (now (args .out)) (put .last .0) (put .ensures) (now (args .last)) (now (name .result))
+    (kept .result) (kept .last .0) (kept .ensures))
+
+pub say-name-spec : {M : Type 1} → statement M
+say-name-spec =
+    tie.close
+    (tie.spec
+    name-or-requires
+    put-name-answer-requires
+    put-text-requires
+    same-length
+    same-length-2
+    returns)

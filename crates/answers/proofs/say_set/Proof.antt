@@ -1,0 +1,43 @@
+-- `say_set` writes the types of the set. Assumes nothing.
+use Prim.Native.Nat.{ℕ}
+use mathlib.Core.Path.{_≡_, sym, ap, _∙_}
+use mathlib.Core.List.{List}
+use borrow.Author.Needs.{needs}
+use denote.Ref.{now}
+use Rattle.wire.specs.Numbers.{Bytes}
+use Rattle.fingerprint.specs.Reader.{read}
+use Rattle.fingerprint.specs.Calls.{extensionSet}
+use Rattle.fingerprint_lists.specs.Arrays.{typesOf}
+use Rattle.fingerprint_lists.specs.declared.Types.{Types}
+use Rattle.reports.specs.Lines.{setText}
+use Rattle.reports.specs.Code.{setParts, Filled}
+use Rattle.reports.proofs.ShowLaws.{set-shown, set-filled}
+use Rattle.answers.proofs.AnswerLaws.{says-result}
+use Rattle.answers.proofs.ReaderLaws.{set-few}
+use Rattle.answers.proofs.say_set.Statement.{statement}
+use Rattle.answers.proofs.say_set.Tie as tie
+
+extension-set-requires : tie.Need-extension-set-requires
+extension-set-requires c κs = search needs
+
+put-set-requires : tie.Need-put-set-requires
+put-set-requires c κs =
+    let h : List ℕ = now (c .before .before .before .before .args .hello) in
+    let bytes : Bytes h = λ i. ((c .before .before .before .shared-slice-known .given) i) .fits in
+    let e = c .before .extension-set .ensures in
+    rw e (set-filled (extensionSet (read h)) (set-few h bytes))
+
+same-length : tie.Need-same-length
+same-length c = search needs
+
+returns : tie.Need-returns
+returns c =
+    let args = c .before .before .before .before .before .before .before .args in
+    let set = c .before .before .before .before .extension-set in
+    let put = c .before .before .put-set in
+    let types : List ℕ = extensionSet (read (now (args .hello))) in
+    let shown : setParts (set .result) ≡ setText types = ap (λ (t : Types). setParts t) (set .ensures) ∙ set-shown types in
+    says-result (setText types) (put .result) (now (args .out)) (put .last .0) (rw shown at (put .ensures))
+
+pub say-set-spec : {M : Type 1} → statement M
+say-set-spec = tie.close (tie.spec extension-set-requires put-set-requires same-length returns)

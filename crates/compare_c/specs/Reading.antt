@@ -1,0 +1,50 @@
+-- What compare/ asks of the reader, as single 64-bit numbers.
+use Prim.Native.Nat.{ℕ, _+_, _%_, _^_}
+use mathlib.Core.Path.{_≡_}
+use mathlib.Core.Bool.{cond}
+use mathlib.Core.List.{List}
+use lib.ListN.{length, getD}
+use lib.Dec.{leb}
+use Rattle.wire.specs.Answer.{Answer, result, refused}
+use Rattle.wire.specs.Front.{front}
+use Rattle.script.specs.Answers.{fittedAll}
+use Rattle.fingerprint_lists.specs.Arrays.{extType, group, span}
+use Rattle.fingerprint.specs.ClientHello.{ClientHello}
+use Rattle.fingerprint.specs.declared.Parsed.{Parsed}
+use Rattle.answers.specs.Answers.{reportAnswer}
+
+-- 0, or 2^32 plus the number
+abbrev pub codedRefusal : Answer ClientHello → ℕ
+codedRefusal (result v) = 0
+codedRefusal (refused n) = 2 ^ 32 + n
+
+-- the length of a text that was written, or 2^32 plus the number
+abbrev pub codedLength : Answer ClientHello → ℕ → ℕ
+codedLength (result v) n = n
+codedLength (refused k) n = 2 ^ 32 + k
+
+pub record ReportCoded (answer : Answer ClientHello) (old : List ℕ) (r : ℕ) (new : List ℕ) : Type 0 where
+  pub is : r ≡ codedLength answer (length (fittedAll (reportAnswer answer) (length old)))
+  pub output : new ≡ front (fittedAll (reportAnswer answer) (length old)) old
+
+pub record TextCoded (parts : List (List ℕ)) (old : List ℕ) (r : ℕ) (new : List ℕ) : Type 0 where
+  pub is : r ≡ length (fittedAll parts (length old))
+  pub output : new ≡ front (fittedAll parts (length old)) old
+
+-- modulo 2^64
+abbrev pub added : ℕ → ℕ → ℕ
+added a b = (a + b) % 2 ^ 64
+
+-- one place below 16 of each list, and the number; 0 for other places
+unfoldable pub pickedOf : Parsed → ℕ → ℕ
+pickedOf p k =
+    cond (leb 16 k) 0
+    (added (added (added (added (added (added (added (added (p .number)
+    (getD (p .report .«cipher_suites») k 0))
+    ((getD (p .report .extensions) k (extType 0)) .0))
+    ((getD (p .report .«supported_groups») k (group 0)) .0))
+    ((getD (p .report .«key_share_groups») k (group 0)) .0))
+    (getD (p .report .«signature_algorithms») k 0))
+    (getD (p .report .«supported_versions») k 0))
+    ((getD (p .report .alpn) k (span 0 0)) .start))
+    (getD (p .report .«transport_param_ids») k 0))

@@ -1,0 +1,4 @@
+pub mod DigitLaws
+pub mod PartLaws
+pub mod ShowLaws
+pub mod NameLaws

@@ -1,0 +1,99 @@
+-- `reports::names::put_quoted` meets its contract: the quote, the name and the quote are written one after the other. Assumes nothing.
+use Prim.Native.Nat.{_+_}
+use mathlib.Core.Path.{refl}
+use mathlib.Core.List.{[], _∷_}
+use lib.ListN.{length}
+use Rattle.script.specs.Scan.{quote}
+use Rattle.script.proofs.ShownLaws.{written, not-written, two-lent}
+use Rattle.reports.specs.Lines.{quoted}
+use Rattle.reports.proofs.NameLaws.{length-quoted}
+use native.Mathlib.Omega.{arith}
+use borrow.Author.Needs.{needs}
+use Rattle.reports.proofs.names.put_quoted.Statement.{statement}
+use Rattle.reports.proofs.names.put_quoted.Tie as tie
+
+returns : tie.Need-returns
+returns c = not-written (quoted (c .before .before .before .args .name .now)) (c .before .before .before .args .out .now) (omega (arith, length-quoted (c .before .before .before .args .name .now)))
+
+sub-if2 : tie.Need-sub-if2
+sub-if2 c = search needs
+
+returns-2 : tie.Need-returns-2
+returns-2 c = not-written (quoted (c .before .before .before .before .args .name .now)) (c .before .before .before .before .args .out .now) (omega (arith, length-quoted (c .before .before .before .before .args .name .now)))
+
+slice-aggregate-put-bytes : tie.Need-slice-aggregate-put-bytes
+slice-aggregate-put-bytes c = search needs
+
+put-bytes-requires : tie.Need-put-bytes-requires
+put-bytes-requires c κs = search needs
+
+sub-put-bytes : tie.Need-sub-put-bytes
+sub-put-bytes c = search needs
+
+part-put-bytes-start : tie.Need-part-put-bytes-start
+part-put-bytes-start c = search needs
+
+part-put-bytes-end : tie.Need-part-put-bytes-end
+part-put-bytes-end c = search needs
+
+put-bytes-requires-2 : tie.Need-put-bytes-requires-2
+put-bytes-requires-2 c κs = search needs
+
+add-put-bytes : tie.Need-add-put-bytes
+add-put-bytes c = search needs
+
+sub-put-bytes-2 : tie.Need-sub-put-bytes-2
+sub-put-bytes-2 c = search needs
+
+part-put-bytes-start-2 : tie.Need-part-put-bytes-start-2
+part-put-bytes-start-2 c = search needs
+
+part-put-bytes-end-2 : tie.Need-part-put-bytes-end-2
+part-put-bytes-end-2 c = search needs
+
+slice-aggregate-put-bytes-2 : tie.Need-slice-aggregate-put-bytes-2
+slice-aggregate-put-bytes-2 c = search needs
+
+put-bytes-requires-3 : tie.Need-put-bytes-requires-3
+put-bytes-requires-3 c κs = search needs
+
+add-result : tie.Need-add-result
+add-result c = search needs
+
+same-length : tie.Need-same-length
+same-length c = search needs
+
+returns-3 : tie.Need-returns-3
+unfolding quoted
+returns-3 c =
+    let s = (c .before .before .before .before .before .before .before .before .before .before .before .before .before .before .before .before .before .before .args .name .now) in
+    let old = (c .before .before .before .before .before .before .before .before .before .before .before .before .before .before .before .before .before .before .args .out .now) in
+    let before = (c .before .before .before .before .before .before .before .before .before .before .before .put-bytes) in
+    let name = (c .before .before .before .before .before .before .before .put-bytes2) in
+    let after = (c .before .before .put-bytes3) in
+    written (quoted s) (length s + 2) old _ (omega (arith, length-quoted s, (c .before .before .before .before .before .before .before .before .before .before .before .before .before .before .before .if1 .left), (c .before .before .before .before .before .before .before .before .before .before .before .before .before .before .if2 .left))) (omega (arith, length-quoted s))
+    (two-lent (quote ∷ []) s (quote ∷ []) old (before .last .0) (name .last .0) (after .last .0) 1 (length s + 1) _ _ refl (omega arith)
+    (before .ensures .output) refl (name .ensures .output) refl (after .ensures .output))
+
+pub put-quoted-spec : {M : Type 1} → statement M
+put-quoted-spec =
+    tie.close
+    (tie.spec
+    returns
+    sub-if2
+    returns-2
+    slice-aggregate-put-bytes
+    put-bytes-requires
+    sub-put-bytes
+    part-put-bytes-start
+    part-put-bytes-end
+    put-bytes-requires-2
+    add-put-bytes
+    sub-put-bytes-2
+    part-put-bytes-start-2
+    part-put-bytes-end-2
+    slice-aggregate-put-bytes-2
+    put-bytes-requires-3
+    add-result
+    same-length
+    returns-3)

@@ -1,0 +1,18 @@
+-- `reports::numbers::put_word` meets its contract: four digits are written. Assumes nothing.
+use Rattle.reports.specs.Digits.{wordText}
+use borrow.Author.Needs.{needs}
+use Rattle.reports.proofs.numbers.put_word.Statement.{statement}
+use Rattle.reports.proofs.numbers.put_word.Tie as tie
+
+put-digits-requires : tie.Need-put-digits-requires
+put-digits-requires c κs = search needs
+
+same-length : tie.Need-same-length
+same-length c = search needs
+
+returns : tie.Need-returns
+unfolding wordText
+returns c = (c .before .before .put-digits .ensures)
+
+pub put-word-spec : {M : Type 1} → statement M
+put-word-spec = tie.close (tie.spec put-digits-requires same-length returns)

@@ -1,0 +1,92 @@
+-- `reports::put_last_lines` meets its contract: three lines are written, each to the part of the output after those before it. Assumes nothing.
+use Prim.Native.Nat.{ℕ, _+_}
+use mathlib.Core.Path.{refl}
+use mathlib.Core.List.{List, _∷_, _++_, map, append-assoc}
+use lib.ListN.{take}
+use Rattle.script.proofs.AnswerLaws.{written-more}
+use Rattle.reports.specs.Digits.{idText}
+use Rattle.reports.specs.Lines.{each, alpnLabel, nameLabel, parametersLabel, lastLines}
+use Rattle.reports.specs.Code.{spanParts, sniParts}
+use Rattle.reports.proofs.PartLaws.{all-as}
+use native.Mathlib.Omega.{arith}
+use borrow.Author.Needs.{needs}
+use Rattle.reports.proofs.put_last_lines.Statement.{statement}
+use Rattle.reports.proofs.put_last_lines.Tie as tie
+
+put-protocols-requires : tie.Need-put-protocols-requires
+put-protocols-requires c κs = ((c .before .before .before .before .pre .counts .protocols), (c .before .before .before .before .pre .protocols-inside))
+
+sub-put-sni : tie.Need-sub-put-sni
+sub-put-sni c = search needs
+
+part-put-sni-start : tie.Need-part-put-sni-start
+part-put-sni-start c = search needs
+
+part-put-sni-end : tie.Need-part-put-sni-end
+part-put-sni-end c = search needs
+
+put-sni-requires : tie.Need-put-sni-requires
+put-sni-requires c κs = (c .before .before .before .before .before .before .before .before .pre .sni-inside)
+
+add-m : tie.Need-add-m
+add-m c = search needs
+
+sub-put-ids : tie.Need-sub-put-ids
+sub-put-ids c = search needs
+
+part-put-ids-start : tie.Need-part-put-ids-start
+part-put-ids-start c = search needs
+
+part-put-ids-end : tie.Need-part-put-ids-end
+part-put-ids-end c = search needs
+
+slice-aggregate-put-ids : tie.Need-slice-aggregate-put-ids
+slice-aggregate-put-ids c = search needs
+
+slice-aggregate-put-ids-2 : tie.Need-slice-aggregate-put-ids-2
+slice-aggregate-put-ids-2 c = search needs
+
+put-ids-requires : tie.Need-put-ids-requires
+put-ids-requires c κs = omega (arith, (c .before .before .before .before .before .before .before .before .before .before .before .before .before .before .before .pre .counts .ids .long), (c .before .before .before .before .before .before .before .before .before .before .before .before .before .before .before .pre .counts .ids .few))
+
+add-result : tie.Need-add-result
+add-result c = search needs
+
+same-length : tie.Need-same-length
+same-length c = search needs
+
+returns : tie.Need-returns
+unfolding lastLines
+returns c =
+    let f = (c .before .before .before .before .before .before .before .before .before .before .before .before .before .before .before .before .before .before .args .report) in
+    let h = (c .before .before .before .before .before .before .before .before .before .before .before .before .before .before .before .before .before .before .args .hello .now) in
+    let out = (c .before .before .before .before .before .before .before .before .before .before .before .before .before .before .before .before .before .before .args .out .now) in
+    let protocols = (c .before .before .before .before .before .before .before .before .before .before .before .before .before .put-protocols) in
+    let name = (c .before .before .before .before .before .before .before .before .before .put-sni) in
+    let ids = (c .before .before .put-ids) in
+    let a : List (List ℕ) = alpnLabel ∷ each (spanParts h) (take (f .«alpn_count») (f .alpn)) in
+    let b : List (List ℕ) = nameLabel ∷ sniParts h (f .sni) in
+    let d : List (List ℕ) = parametersLabel ∷ map idText (take (f .«id_count») (f .«transport_param_ids»)) in
+    let two = written-more a b (protocols .result) (name .result) _ out (protocols .last .0) (name .last .0) (protocols .ensures) refl (name .ensures) in
+    let three = written-more (a ++ b) d (protocols .result + name .result) (ids .result) _ out _ (ids .last .0) two refl (ids .ensures) in
+    all-as ((a ++ b) ++ d) (a ++ (b ++ d)) _ out _ (append-assoc a b d) three
+
+pub put-last-lines-spec : {M : Type 1} → statement M
+put-last-lines-spec =
+    tie.close
+    (tie.spec
+    put-protocols-requires
+    sub-put-sni
+    part-put-sni-start
+    part-put-sni-end
+    put-sni-requires
+    add-m
+    sub-put-ids
+    part-put-ids-start
+    part-put-ids-end
+    slice-aggregate-put-ids
+    slice-aggregate-put-ids-2
+    put-ids-requires
+    add-result
+    same-length
+    returns)

@@ -1,0 +1,130 @@
+-- `reports::put_list_lines` meets its contract: four lines are written, each to the part of the output after those before it. Assumes nothing.
+use Prim.Native.Nat.{ℕ, _+_}
+use mathlib.Core.Path.{refl, _∙_}
+use mathlib.Core.List.{List, _∷_, _++_, map, append-assoc}
+use lib.ListN.{take}
+use Rattle.script.proofs.AnswerLaws.{written-more}
+use Rattle.reports.specs.Digits.{wordText}
+use Rattle.reports.specs.Lines.{groupsLabel, sharesLabel, algorithmsLabel, versionsLabel, listLines}
+use Rattle.reports.specs.Code.{groupNumbers}
+use Rattle.reports.proofs.PartLaws.{all-as}
+use native.Mathlib.Omega.{arith}
+use borrow.Author.Needs.{needs}
+use Rattle.reports.proofs.put_list_lines.Statement.{statement}
+use Rattle.reports.proofs.put_list_lines.Tie as tie
+
+slice-aggregate-put-groups : tie.Need-slice-aggregate-put-groups
+slice-aggregate-put-groups c = search needs
+
+put-groups-requires : tie.Need-put-groups-requires
+put-groups-requires c κs = (c .before .before .before .before .pre .groups)
+
+sub-put-groups : tie.Need-sub-put-groups
+sub-put-groups c = search needs
+
+part-put-groups-start : tie.Need-part-put-groups-start
+part-put-groups-start c = search needs
+
+part-put-groups-end : tie.Need-part-put-groups-end
+part-put-groups-end c = search needs
+
+slice-aggregate-put-groups-2 : tie.Need-slice-aggregate-put-groups-2
+slice-aggregate-put-groups-2 c = search needs
+
+put-groups-requires-2 : tie.Need-put-groups-requires-2
+put-groups-requires-2 c κs = (c .before .before .before .before .before .before .before .before .before .before .pre .shares)
+
+add-m : tie.Need-add-m
+add-m c = search needs
+
+sub-put-words : tie.Need-sub-put-words
+sub-put-words c = search needs
+
+part-put-words-start : tie.Need-part-put-words-start
+part-put-words-start c = search needs
+
+part-put-words-end : tie.Need-part-put-words-end
+part-put-words-end c = search needs
+
+slice-aggregate-put-words : tie.Need-slice-aggregate-put-words
+slice-aggregate-put-words c = search needs
+
+slice-aggregate-put-words-2 : tie.Need-slice-aggregate-put-words-2
+slice-aggregate-put-words-2 c = search needs
+
+put-words-requires : tie.Need-put-words-requires
+put-words-requires c κs = omega (arith, (c .before .before .before .before .before .before .before .before .before .before .before .before .before .before .before .before .before .pre .algorithms .long), (c .before .before .before .before .before .before .before .before .before .before .before .before .before .before .before .before .before .pre .algorithms .few))
+
+add-k : tie.Need-add-k
+add-k c = search needs
+
+sub-put-words-2 : tie.Need-sub-put-words-2
+sub-put-words-2 c = search needs
+
+part-put-words-start-2 : tie.Need-part-put-words-start-2
+part-put-words-start-2 c = search needs
+
+part-put-words-end-2 : tie.Need-part-put-words-end-2
+part-put-words-end-2 c = search needs
+
+slice-aggregate-put-words-3 : tie.Need-slice-aggregate-put-words-3
+slice-aggregate-put-words-3 c = search needs
+
+slice-aggregate-put-words-4 : tie.Need-slice-aggregate-put-words-4
+slice-aggregate-put-words-4 c = search needs
+
+put-words-requires-2 : tie.Need-put-words-requires-2
+put-words-requires-2 c κs = omega (arith, (c .before .before .before .before .before .before .before .before .before .before .before .before .before .before .before .before .before .before .before .before .before .before .before .before .pre .versions .long), (c .before .before .before .before .before .before .before .before .before .before .before .before .before .before .before .before .before .before .before .before .before .before .before .before .pre .versions .few))
+
+add-result : tie.Need-add-result
+add-result c = search needs
+
+same-length : tie.Need-same-length
+same-length c = search needs
+
+returns : tie.Need-returns
+unfolding listLines
+returns c =
+    let f = (c .before .before .before .before .before .before .before .before .before .before .before .before .before .before .before .before .before .before .before .before .before .before .before .before .before .before .before .args .report) in
+    let out = (c .before .before .before .before .before .before .before .before .before .before .before .before .before .before .before .before .before .before .before .before .before .before .before .before .before .before .before .args .out .now) in
+    let groups = (c .before .before .before .before .before .before .before .before .before .before .before .before .before .before .before .before .before .before .before .before .before .before .put-groups) in
+    let shares = (c .before .before .before .before .before .before .before .before .before .before .before .before .before .before .before .before .put-groups2) in
+    let algorithms = (c .before .before .before .before .before .before .before .before .before .put-words) in
+    let versions = (c .before .before .put-words2) in
+    let a : List (List ℕ) = groupsLabel ∷ map wordText (groupNumbers (f .«supported_groups») (f .«group_count»)) in
+    let b : List (List ℕ) = sharesLabel ∷ map wordText (groupNumbers (f .«key_share_groups») (f .«share_count»)) in
+    let d : List (List ℕ) = algorithmsLabel ∷ map wordText (take (f .«algorithm_count») (f .«signature_algorithms»)) in
+    let e : List (List ℕ) = versionsLabel ∷ map wordText (take (f .«version_count») (f .«supported_versions»)) in
+    let two = written-more a b (groups .result) (shares .result) _ out (groups .last .0) (shares .last .0) (groups .ensures) refl (shares .ensures) in
+    let three = written-more (a ++ b) d (groups .result + shares .result) (algorithms .result) _ out _ (algorithms .last .0) two refl (algorithms .ensures) in
+    let four = written-more ((a ++ b) ++ d) e (groups .result + shares .result + algorithms .result) (versions .result) _ out _ (versions .last .0) three refl (versions .ensures) in
+    all-as (((a ++ b) ++ d) ++ e) (a ++ (b ++ (d ++ e))) _ out _ (append-assoc (a ++ b) d e ∙ append-assoc a b (d ++ e)) four
+
+pub put-list-lines-spec : {M : Type 1} → statement M
+put-list-lines-spec =
+    tie.close
+    (tie.spec
+    slice-aggregate-put-groups
+    put-groups-requires
+    sub-put-groups
+    part-put-groups-start
+    part-put-groups-end
+    slice-aggregate-put-groups-2
+    put-groups-requires-2
+    add-m
+    sub-put-words
+    part-put-words-start
+    part-put-words-end
+    slice-aggregate-put-words
+    slice-aggregate-put-words-2
+    put-words-requires
+    add-k
+    sub-put-words-2
+    part-put-words-start-2
+    part-put-words-end-2
+    slice-aggregate-put-words-3
+    slice-aggregate-put-words-4
+    put-words-requires-2
+    add-result
+    same-length
+    returns)

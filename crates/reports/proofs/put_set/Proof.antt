@@ -1,0 +1,22 @@
+-- `reports::put_set` meets its contract: the types are written after their label. Assumes nothing.
+use Rattle.reports.specs.Lines.{setText}
+use borrow.Author.Needs.{needs}
+use Rattle.reports.proofs.put_set.Statement.{statement}
+use Rattle.reports.proofs.put_set.Tie as tie
+
+slice-aggregate-put-types : tie.Need-slice-aggregate-put-types
+slice-aggregate-put-types c = search needs
+
+put-types-requires : tie.Need-put-types-requires
+put-types-requires c κs = (c .before .before .before .before .pre)
+
+same-length : tie.Need-same-length
+same-length c = search needs
+
+returns : tie.Need-returns
+unfolding setText
+returns c = (c .before .before .put-types .ensures)
+
+pub put-set-spec : {M : Type 1} → statement M
+put-set-spec =
+    tie.close (tie.spec slice-aggregate-put-types put-types-requires same-length returns)
