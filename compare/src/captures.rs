@@ -14,6 +14,32 @@ pub(crate) struct Capture {
     pub(crate) resent: bool,
 }
 
+pub(crate) struct Greeting {
+    /// The file of the hello without what follows its first dot.
+    pub(crate) name: String,
+    pub(crate) hello: Vec<u8>,
+    /// The hello's fields as tshark sees them, in JSON.
+    pub(crate) fields: String,
+}
+
+/// Each hello in the folder with its fields, by name.
+pub(crate) fn read_hellos(folder: &Path) -> Result<Vec<Greeting>> {
+    let mut greetings = Vec::new();
+    for entry in fs::read_dir(folder)? {
+        let file = entry?.file_name().to_string_lossy().into_owned();
+        let Some(name) = file.strip_suffix(".hello.bin") else {
+            continue;
+        };
+        greetings.push(Greeting {
+            name: name.to_string(),
+            hello: fs::read(folder.join(&file))?,
+            fields: fs::read_to_string(folder.join(format!("{name}.json")))?,
+        });
+    }
+    greetings.sort_by(|a, b| a.name.cmp(&b.name));
+    Ok(greetings)
+}
+
 /// Each list of frames in the folder with its hello, by name.
 pub(crate) fn read(folder: &Path) -> Result<Vec<Capture>> {
     let mut captures = Vec::new();

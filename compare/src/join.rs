@@ -9,7 +9,7 @@ mod sample;
 mod stream;
 mod timing;
 
-pub(crate) use lists::{crypto, LIMIT};
+pub(crate) use lists::{any_width, crypto, LIMIT};
 pub(crate) use sample::sample;
 pub(crate) use stream::Stream;
 pub(crate) use timing::time;

@@ -11,6 +11,7 @@ mod noise {
 mod ours;
 mod panics;
 mod random;
+mod read;
 mod sample;
 mod script;
 mod sides;
@@ -20,7 +21,8 @@ mod tape;
 mod timing;
 mod varint;
 
-use captures::Capture;
+use captures::{Capture, Greeting};
+use std::io::Result;
 use std::path::Path;
 use std::process::ExitCode;
 use tally::Tally;
@@ -31,8 +33,8 @@ fn main() -> ExitCode {
     let words: Vec<String> = std::env::args().skip(1).collect();
     let words: Vec<&str> = words.iter().map(String::as_str).collect();
     match words[..] {
-        ["--captures", folder] => match captures::read(Path::new(folder)) {
-            Ok(captures) => compare_all(&captures),
+        ["--captures", folder] => match read_captures(Path::new(folder)) {
+            Ok((captures, greetings)) => compare_all(&captures, &greetings),
             Err(error) => stop(&format!("{folder}: {error}")),
         },
         ["--sample", folder, origin] => sample::write(folder, origin, &samples()),
@@ -45,23 +47,35 @@ fn stop(why: &str) -> ExitCode {
     ExitCode::from(2)
 }
 
-fn compare_all(captures: &[Capture]) -> ExitCode {
+fn read_captures(folder: &Path) -> Result<(Vec<Capture>, Vec<Greeting>)> {
+    Ok((captures::read(folder)?, captures::read_hellos(folder)?))
+}
+
+fn compare_all(captures: &[Capture], greetings: &[Greeting]) -> ExitCode {
     let mut tally = Tally::default();
     varint::compare(&mut tally);
     join::compare(&mut tally, captures);
     cut::compare(&mut tally);
     split::compare(&mut tally);
     make::compare(&mut tally);
+    read::compare(&mut tally, greetings);
     timing::print_how();
     varint::time(&mut tally);
     join::time(&mut tally, captures);
     make::time(&mut tally);
+    read::time(&mut tally, greetings);
     tally.verdict()
 }
 
 fn samples() -> Vec<sample::Section> {
-    [varint::sample(), join::sample(), split::sample(), make::sample()]
-        .into_iter()
-        .flatten()
-        .collect()
+    [
+        varint::sample(),
+        join::sample(),
+        split::sample(),
+        make::sample(),
+        read::sample(),
+    ]
+    .into_iter()
+    .flatten()
+    .collect()
 }

@@ -88,8 +88,19 @@ fn edges() -> Vec<Question> {
     list
 }
 
+/// The original's hello of a profile, a name, a connection id and a random tape by its seed.
+pub(crate) fn hello(profile: u64, name: &str, scid: &[u8], seed: u64) -> Vec<u8> {
+    let question = Question::new(profile, name.as_bytes(), scid, Fill::Random(seed));
+    question.made_by_rust().0
+}
+
+/// The original's hello of anything that it may be asked for.
+pub(crate) fn any_hello(random: &mut Random) -> Vec<u8> {
+    good(random).made_by_rust().0
+}
+
 /// Any profile, name and connection id, and a tape of zeros, of ones, or random.
-fn draw(random: &mut Random) -> Question {
+fn good(random: &mut Random) -> Question {
     let profile = random.below(TABLE.len()) as u64;
     let (n, s) = (1 + random.below(255), random.below(21));
     let name: Vec<u8> = (0..n).map(|_| 33 + random.below(94) as u8).collect();
@@ -99,7 +110,13 @@ fn draw(random: &mut Random) -> Question {
         1 => Fill::Same(0xff),
         _ => Fill::Random(random.next() | 1),
     };
-    let question = Question::new(profile, &name, &scid, fill);
+    Question::new(profile, &name, &scid, fill)
+}
+
+/// The same with tape and output that may be longer; one in so many has something wrong with it.
+fn draw(random: &mut Random) -> Question {
+    let question = good(random);
+    let (n, s) = (question.name.len(), question.scid.len());
     if random.below(WRONG) != 0 {
         let (tape, room) = (
             question.tape + random.below(20),

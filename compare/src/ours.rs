@@ -17,6 +17,9 @@ mod archive {
         usize,
     ) -> u64;
 
+    /// Hello and output for a text, each with its length after it.
+    pub(super) type Text = unsafe extern "C" fn(*const u8, usize, *mut u8, usize) -> u64;
+
     extern "C" {
         pub(super) fn compare_varint_size(value: u64) -> u64;
         pub(super) fn compare_varint_write(value: u64, out: *mut u8, out_len: usize) -> u64;
@@ -60,6 +63,20 @@ mod archive {
             out: *mut u8,
             out_len: usize,
         ) -> u64;
+        pub(super) fn compare_refusal(hello: *const u8, hello_len: usize) -> u64;
+        pub(super) fn compare_report(
+            hello: *const u8,
+            hello_len: usize,
+            out: *mut u8,
+            out_len: usize,
+        ) -> u64;
+        pub(super) fn compare_set(
+            hello: *const u8,
+            hello_len: usize,
+            out: *mut u8,
+            out_len: usize,
+        ) -> u64;
+        pub(super) fn compare_picked(hello: *const u8, hello_len: usize, place: usize) -> u64;
         pub(super) fn compare_next(blob: *const u8, blob_len: usize, place: usize) -> u64;
         pub(super) fn compare_record(
             blob: *const u8,
@@ -77,6 +94,11 @@ const REFUSED: u64 = 1 << 32;
 const END: u64 = 1 << 33;
 /// The same for a call that gives a varint's value, which may be any number below 2^62.
 const VALUE_REFUSED: u64 = 1 << 63;
+
+/// Room for the longest report: names of up to 16,384 bytes in hex, and seven lists of up to 64 numbers.
+const REPORT_ROOM: usize = 1 << 16;
+/// Room for 64 types.
+const SET_ROOM: usize = 1 << 9;
 
 fn told(number: u64, refused: u64) -> Told {
     if number < refused {
@@ -169,6 +191,37 @@ fn make_by(call: archive::Make, browser: u64, lent: [&[u8]; 3], out: &mut [u8]) 
         )
     };
     told(number, REFUSED)
+}
+
+/// 0 where the reader accepts a hello. No report is built.
+pub(crate) fn refusal(hello: &[u8]) -> Told {
+    // SAFETY: pointer and length are those of one slice, which the call reads.
+    let number = unsafe { archive::compare_refusal(hello.as_ptr(), hello.len()) };
+    told(number, REFUSED)
+}
+
+/// The report as the script's command `report` shows it.
+pub(crate) fn report(hello: &[u8]) -> Result<String, u64> {
+    text_by(archive::compare_report, hello, REPORT_ROOM)
+}
+
+/// The types in rising order as the script's command `set` shows them.
+pub(crate) fn extension_set(hello: &[u8]) -> String {
+    text_by(archive::compare_set, hello, SET_ROOM).expect("a set is never refused")
+}
+
+fn text_by(call: archive::Text, hello: &[u8], room: usize) -> Result<String, u64> {
+    let mut out = vec![0; room];
+    // SAFETY: each pointer and length are those of one slice; the call reads the first, and the other is lent to nobody else.
+    let number = unsafe { call(hello.as_ptr(), hello.len(), out.as_mut_ptr(), out.len()) };
+    let length = told(number, REFUSED)?;
+    Ok(String::from_utf8_lossy(&out[..length as usize]).into_owned())
+}
+
+/// The sum of one place of each list of the report, which is built whole: something to time.
+pub(crate) fn picked(hello: &[u8], place: usize) -> u64 {
+    // SAFETY: pointer and length are those of one slice, which the call reads.
+    unsafe { archive::compare_picked(hello.as_ptr(), hello.len(), place) }
 }
 
 /// The place after the record that stands at a place of a blob; `None` at the end.

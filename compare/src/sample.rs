@@ -26,7 +26,7 @@ pub(crate) fn write(folder: &str, origin: &str, sections: &[Section]) -> ExitCod
     let (script, answers) = texts(origin, sections);
     match write_both(Path::new(folder), &script, &answers) {
         Ok(()) => {
-            let count = answers.lines().count();
+            let count: usize = sections.iter().map(|section| section.lines.len()).sum();
             println!("{folder}/stdin and {folder}/stdout: {count} questions and answers");
             ExitCode::SUCCESS
         }
@@ -42,7 +42,8 @@ fn texts(origin: &str, sections: &[Section]) -> (String, String) {
         "# Made by compare/run --sample; the answers in the file stdout are the original Rust's, built unchanged from\n\
          # {origin}, folder boringtun/src/noise/quic.\n\
          # A panic of the Rust's size and write is written as refused 1, None of its read as refused 3, a panic of its\n\
-         # split_records as refused 27. An output and marks are what document 01 makes of the stream that the Rust joins.\n"
+         # split_records as refused 27. An output and marks are what document 01 makes of the stream that the Rust joins.\n\
+         # The Rust gives no ranges: those in its reports are the driver's.\n"
     );
     let mut answers = String::new();
     for section in sections {

@@ -29,8 +29,29 @@ impl Display for Bytes<'_> {
     }
 }
 
+/// Shows a name: as text in quotes where it can be, else as plain hex, `-` for none.
+pub(crate) struct Text<'a>(pub(crate) &'a [u8]);
+
+impl Display for Text<'_> {
+    fn fmt(&self, f: &mut Formatter<'_>) -> Result {
+        let plain = |byte: &u8| (33..=126).contains(byte) && *byte != b'"';
+        if self.0.is_empty() {
+            return f.write_str("-");
+        }
+        if self.0.iter().all(plain) {
+            return write!(f, "\"{}\"", String::from_utf8_lossy(self.0));
+        }
+        self.0.iter().try_for_each(|byte| write!(f, "{byte:02x}"))
+    }
+}
+
 /// The bytes of hex as a script has it.
 pub(crate) fn hex(text: &str) -> Vec<u8> {
-    let byte = |place| u8::from_str_radix(&text[place..place + 2], 16).expect("hex");
+    try_hex(text).expect("hex")
+}
+
+/// The same for a text that need not be hex.
+pub(crate) fn try_hex(text: &str) -> Option<Vec<u8>> {
+    let byte = |place| u8::from_str_radix(text.get(place..place + 2)?, 16).ok();
     (0..text.len()).step_by(2).map(byte).collect()
 }

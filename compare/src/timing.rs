@@ -67,6 +67,16 @@ impl<const N: usize> Rounds<N> {
     }
 }
 
+/// The nanoseconds of the fastest of so many calls.
+pub(crate) fn least(calls: usize, mut work: impl FnMut() -> u64) -> f64 {
+    let call = |_| {
+        let start = Instant::now();
+        black_box(work());
+        start.elapsed().as_nanos() as f64
+    };
+    (0..calls).map(call).fold(f64::INFINITY, f64::min)
+}
+
 fn nanoseconds(work: &mut impl FnMut() -> u64) -> f64 {
     let start = Instant::now();
     for _ in 0..REPEATS {

@@ -29,7 +29,7 @@ fn shortest(value: usize) -> Vec<u8> {
 }
 
 /// A varint in any width that holds the value, the shortest as often as all others.
-fn any_width(value: usize, random: &mut Random) -> Vec<u8> {
+pub(crate) fn any_width(value: usize, random: &mut Random) -> Vec<u8> {
     let mut bytes = shortest(value);
     while bytes.len() < WIDEST && random.below(2) == 0 {
         bytes = longer(&bytes);

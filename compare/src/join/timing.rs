@@ -45,7 +45,11 @@ fn time_cuts(tally: &mut Tally, hello: &[u8]) {
     for (title, frames) in lists {
         let [to_floor, to_rust] = print(&format!("a Chrome hello, {title}"), &frames, hello);
         if title == "2 frames" {
-            let met = if to_floor <= AIM && to_rust < 1.0 { "met" } else { "not met" };
+            let met = if to_floor <= AIM && to_rust < 1.0 {
+                "met"
+            } else {
+                "not met"
+            };
             println!("  (aim {AIM:.2} of the floor, and less than the Rust: {met})");
         }
         let question = Question::new(frames);

@@ -89,6 +89,16 @@ impl Question {
         }
     }
 
+    /// The original's hello and the count drawn. Nothing may be wrong with the question.
+    pub(super) fn made_by_rust(&self) -> (Vec<u8>, usize) {
+        let bytes = self.tape_bytes();
+        let mut tape = Tape::new(&bytes);
+        let profile = Profile::for_browser(TABLE[self.profile as usize].browser);
+        let name = std::str::from_utf8(&self.name).expect("bytes 33 to 126");
+        let hello = generate_client_hello(&profile, name, &self.scid, &mut tape);
+        (hello, tape.drawn())
+    }
+
     fn output(&self) -> Vec<u8> {
         vec![UNTOUCHED; self.room]
     }
@@ -131,14 +141,10 @@ impl Ask for Question {
                 out,
             };
         }
-        let bytes = self.tape_bytes();
-        let mut tape = Tape::new(&bytes);
-        let profile = Profile::for_browser(TABLE[self.profile as usize].browser);
-        let name = std::str::from_utf8(&self.name).expect("bytes 33 to 126");
-        let hello = generate_client_hello(&profile, name, &self.scid, &mut tape);
+        let (hello, drawn) = self.made_by_rust();
         out[..hello.len()].copy_from_slice(&hello);
         Answer {
-            made: Ok((hello.len() as u64, tape.drawn() as u64)),
+            made: Ok((hello.len() as u64, drawn as u64)),
             out,
         }
     }

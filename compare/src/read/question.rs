@@ -1,0 +1,108 @@
+//! A hello to be read, and the two sides' answers.
+
+use super::law;
+use super::report::Numbers;
+use super::text::parse;
+use crate::noise::quic::fingerprint::{parse_clienthello, Fingerprint};
+use crate::ours;
+use crate::script::Bytes;
+use crate::sides::Ask;
+use std::fmt::{Display, Formatter, Result};
+
+#[derive(PartialEq, Eq, Hash)]
+pub(super) struct Question {
+    pub(super) hello: Vec<u8>,
+}
+
+impl Question {
+    pub(super) fn new(hello: &[u8]) -> Self {
+        let hello = hello.to_vec();
+        Question { hello }
+    }
+
+    /// The answers of document 01 to the commands `report` and `set`.
+    pub(super) fn texts_by_law(&self) -> String {
+        match law::read(&self.hello) {
+            Ok(report) => {
+                let set = report.fingerprint().extension_set();
+                format!("{report}\n{}", types(&set))
+            }
+            Err(number) => refused(number),
+        }
+    }
+
+    /// Our answers to the commands `report` and `set`.
+    pub(super) fn texts_by_ours(&self) -> String {
+        format!("{}\n{}", self.report_by_ours(), self.set_by_ours())
+    }
+
+    /// The number alone and the report are two calls, which must agree.
+    fn report_by_ours(&self) -> String {
+        match (ours::refusal(&self.hello), ours::report(&self.hello)) {
+            (Ok(0), Ok(text)) => text,
+            (Err(number), Err(same)) if number == same => format!("refused {number}"),
+            (alone, with) => format!("number alone {alone:?}, with the report {with:?}"),
+        }
+    }
+
+    fn set_by_ours(&self) -> String {
+        ours::extension_set(&self.hello)
+    }
+}
+
+/// A refusal, and the set of a hello that is refused, which has no types.
+pub(super) fn refused(number: u64) -> String {
+    format!("refused {number}\n{}", types(&[]))
+}
+
+pub(super) fn types(set: &[u16]) -> String {
+    format!("types{}", Numbers(set))
+}
+
+/// What was read, or a text that is no report, and the text of the set.
+#[derive(PartialEq)]
+pub(super) struct Answer {
+    read: std::result::Result<Fingerprint, String>,
+    set: String,
+}
+
+impl Answer {
+    pub(super) fn of(read: Fingerprint) -> Self {
+        let set = types(&read.extension_set());
+        Answer {
+            read: Ok(read),
+            set,
+        }
+    }
+}
+
+impl Ask for Question {
+    type Answer = Answer;
+
+    fn by_rust(&self) -> Answer {
+        Answer::of(parse_clienthello(&self.hello))
+    }
+
+    fn by_ours(&self) -> Answer {
+        let read = parse(&self.report_by_ours(), &self.hello);
+        Answer {
+            read: read.map(|report| report.fingerprint()),
+            set: self.set_by_ours(),
+        }
+    }
+}
+
+impl Display for Question {
+    fn fmt(&self, f: &mut Formatter<'_>) -> Result {
+        write!(f, "report {}", Bytes(&self.hello))
+    }
+}
+
+impl Display for Answer {
+    fn fmt(&self, f: &mut Formatter<'_>) -> Result {
+        match &self.read {
+            Ok(read) => write!(f, "{read:?} {}", self.set),
+            Err(text) => write!(f, "{text} {}", self.set),
+        }
+    }
+}
