@@ -173,7 +173,7 @@ fn many_suites() -> Vec<Parting> {
 }
 
 /// Whole blocks: the number, the block, and what the original reads, or `None` for a panic.
-const BLOCKS: [(u64, &str, Option<&str>); 16] = [
+const BLOCKS: [(u64, &str, Option<&str>); 17] = [
     // 1 to 3 bytes after the last extension
     (20, "00", Some("")),
     (20, "0000", Some("")),
@@ -195,6 +195,12 @@ const BLOCKS: [(u64, &str, Option<&str>); 16] = [
         21,
         "0000000600040000016100000006000400000162",
         Some(" types 0000 0000 name \"b\""),
+    ),
+    // a length that is too long swallows the next extension
+    (
+        21,
+        "000a00080002001d00170000",
+        Some(" types 000a groups 001d"),
     ),
     // ids again, by value
     (22, "0039000401000100", Some(" types 0039 ids [1, 1]")),

@@ -1,5 +1,4 @@
--- Bodies, written and read: a body in its form is read from its bytes, and what is read from bytes is in its form and has those bytes.
--- Assumes nothing.
+-- Bodies in their form are read from their bytes; what is read from bytes is in its form and has those bytes. Assumes nothing.
 use Prim.Native.Nat.{ℕ}
 use mathlib.Core.Path.{_≡_, refl}
 use mathlib.Core.Bool.{true}

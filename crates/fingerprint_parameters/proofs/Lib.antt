@@ -1,5 +1,7 @@
-pub mod OneParameter
 pub mod MemberLaws
+pub mod MarkLaws
+pub mod OneParameter
 pub mod ParameterLaws
 pub mod ReadingLaws
 pub mod AskedLaws
+pub mod ShortParameter

@@ -1,21 +1,20 @@
--- Numbers in a list: looking for one, whether any stands twice, and marks by which most are known to be new. Assumes nothing.
-use Prim.Native.Nat.{ℕ, zero, suc, _+_, _-_, _%_, _≤_, _<_}
+-- Numbers in a list: looking for one, and whether any stands twice. Assumes nothing.
+use Prim.Native.Nat.{ℕ, suc, _+_, _-_, _≤_, _<_}
 use mathlib.Core.Path.{_≡_, refl, sym, ap, _∙_}
-use mathlib.Core.Bool.{Bool, true, false, _||_, true≢false}
-use mathlib.Core.Logic.{_⊎_, inl, inr, ⊎-elim}
+use mathlib.Core.Bool.{Bool, true, false, true≢false}
+use mathlib.Core.Logic.{⊎-elim}
 use mathlib.Core.List.{List, [], _∷_, _++_}
-use native.Mathlib.Nat.{mod-lt, not-suc-le-zero, le-of-suc-le-suc}
+use native.Mathlib.Nat.{not-suc-le-zero, le-of-suc-le-suc}
 use native.Mathlib.Decide.{ℕ-discrete}
 use native.Mathlib.Numerals.{add-one}
 use native.Mathlib.Omega.{arith}
-use lib.ListN.{length, take, drop, set, getD, length-take, drop-of-length-le}
-use lib.Seq.{take-suc, take-add, drop-cons, getD-take, length-take-le, getD-set-same, getD-set-other}
-use lib.Dec.{eqb, lit<}
-use borrow.Author.Tests.{eq-eqb, ne-eqb, eqb-true}
+use lib.ListN.{length, take, drop, getD, length-take, drop-of-length-le}
+use lib.Seq.{take-suc, take-add, drop-cons, getD-take, length-take-le}
+use lib.Dec.{eqb}
+use borrow.Author.Tests.{eq-eqb, ne-eqb}
 use Rattle.wire.specs.Sums.{indicator, count, any, member, distinct}
 use Rattle.wire.proofs.SumLaws.{count-append, count-cons, member-nil, member-none, member-some, distinct-once, once-distinct, indicator-le}
 use Rattle.wire.proofs.ListLaws.{lt-or-le}
-use Rattle.fingerprint_parameters.specs.Code.{Marked}
 
 -- ---- the first number of a list
 
@@ -62,7 +61,7 @@ member-counted x l e = ⊎-elim (λ p. p) (λ q. absurd (true≢false (sym e ∙
 count-one : (x y : ℕ) → count x (y ∷ []) ≡ indicator (eqb x y)
 count-one x y = omega (arith, count-cons x y [], member-some x [] (member-nil x))
 
-member-last : (x y : ℕ) (l : List ℕ) → (x ≡ y → ⊥) → member x (l ++ (y ∷ [])) ≡ true → member x l ≡ true
+pub member-last : (x y : ℕ) (l : List ℕ) → (x ≡ y → ⊥) → member x (l ++ (y ∷ [])) ≡ true → member x l ≡ true
 member-last x y l o e = go (member x l) refl
   where
     go : (t : Bool) → member x l ≡ t → t ≡ true
@@ -85,7 +84,7 @@ distinct-last x l d m = once-distinct (l ++ (x ∷ [])) once
 -- ---- place i of a list, whose first numbers are known
 
 module _ (l : List ℕ) (i : ℕ) (h : i < length l) where
-  one-more : take (i + 1) l ≡ take i l ++ (getD l i 0 ∷ [])
+  pub one-more : take (i + 1) l ≡ take i l ++ (getD l i 0 ∷ [])
   one-more = rw (add-one i) (take-suc l i 0 h)
 
   pub new-next : distinct (take i l) ≡ true → member (getD l i 0) (take i l) ≡ false → distinct (take (i + 1) l) ≡ true
@@ -105,28 +104,8 @@ module _ (l : List ℕ) (i : ℕ) (h : i < length l) where
           rw (more, one-more, count-append, count-append, count-one x x, eq-eqb x x refl) in
           absurd (omega (arith, twice, member-counted x (take i l) m, distinct-once (take n l) e x))
 
-  -- the mark of the number is set
-  pub marked-next : (marks : List Bool) → length marks ≡ 64 → Marked marks (take i l) → Marked (set marks (getD l i 0 % 64) true) (take (i + 1) l)
-  marked-next marks s m x e = go (ℕ-discrete (x % 64) (getD l i 0 % 64))
-    where
-      go : Dec (x % 64 ≡ getD l i 0 % 64) → getD (set marks (getD l i 0 % 64) true) (x % 64) false ≡ true
-      go (yes p) = rw p (getD-set-same marks (getD l i 0 % 64) true false (omega (arith, s)))
-      go (no q) =
-          rw (getD-set-other marks (getD l i 0 % 64) (x % 64) true false q)
-          (m x (member-last x (getD l i 0) (take i l) (λ z. q (ap (λ (n : ℕ). n % 64) z)) (rw one-more at e)))
-
 pub new-start : (l : List ℕ) → distinct (take 0 l) ≡ true
 new-start l = distinct-nil
-
-pub marked-start : (marks : List Bool) (l : List ℕ) → Marked marks (take 0 l)
-marked-start marks l x e = absurd (true≢false (sym e ∙ member-nil x))
-
-pub unmarked-new : (marks : List Bool) (l : List ℕ) (x : ℕ) → Marked marks l → getD marks (x % 64) false ≡ false → member x l ≡ false
-unmarked-new marks l x m e = go (member x l) refl
-  where
-    go : (t : Bool) → member x l ≡ t → t ≡ false
-    go false q = refl
-    go true q = absurd (true≢false (sym (m x q) ∙ e))
 
 -- ---- two lists that agree place by place
 

@@ -1,4 +1,4 @@
--- What `one_parameter` promises, by what its code has read and tested. Assumes nothing.
+-- What `any_parameter` promises, by what its code has read and tested. Assumes nothing.
 use Prim.Native.Nat.{ℕ, _+_, _-_, _≤_, _<_}
 use mathlib.Core.Path.{_≡_, refl}
 use mathlib.Core.List.{List}

@@ -1,17 +1,16 @@
 -- The parameters of a body one by one: each takes a byte or more, so what follows it is read like a body of its own. Assumes nothing.
-use Prim.Native.Nat.{ℕ, zero, suc, _+_, _-_, _≤_, _<_}
+use Prim.Native.Nat.{ℕ, zero, suc, _+_, _≤_, _<_}
 use mathlib.Core.Path.{_≡_, refl, sym, ap, _∙_}
 use mathlib.Core.Bool.{Bool, true, false, cond}
 use mathlib.Core.List.{List, [], _∷_, map}
 use mathlib.Core.Option.{Option, none, some}
 use native.Mathlib.Nat.{le-refl}
 use native.Mathlib.Omega.{arith}
-use lib.ListN.{length, take, drop, length-drop, drop-of-length-le}
+use lib.ListN.{length, take, drop, length-drop}
 use lib.Seq.{drop-drop}
 use lib.Dec.{leb}
 use Rattle.wire.specs.Answer.{Answer, result, refused}
 use Rattle.wire.specs.Numbers.{Bytes}
-use Rattle.wire.specs.Sums.{member, distinct}
 use Rattle.wire.proofs.NumberLaws.{bytes-drop}
 use Rattle.varint.specs.Varint.{classAt, readOf}
 use Rattle.varint.specs.declared.Varint.{Varint}
@@ -23,7 +22,7 @@ use Rattle.fingerprint_bodies.specs.Forms.{varintFound, varintAt, oneParameter,
 use Rattle.fingerprint_bodies.proofs.EntryLaws.{There, there-first, or-first, there-not}
 use Rattle.fingerprint_parameters.specs.Code.{ParameterFound, idsOf}
 
--- ---- what stands before a piece that is there
+-- ---- where a whole is there, so is each of its pieces, and what follows it is a later part of the same bytes
 
 record Bound {A B : Type 0} (x : Option A) (f : A → Option B) (b : B) : Type 0 where
   value : A

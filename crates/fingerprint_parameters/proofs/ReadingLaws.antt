@@ -1,5 +1,5 @@
 -- What `read_ids` has read when it stands before a parameter, and what that says at its end. Assumes nothing.
-use Prim.Native.Nat.{ℕ, zero, suc, _+_, _≤_, _<_}
+use Prim.Native.Nat.{ℕ, _+_, _≤_, _<_}
 use mathlib.Core.Path.{_≡_, refl, sym, ap, _∙_}
 use mathlib.Core.Logic.{⊎-elim}
 use mathlib.Core.List.{List, [], _∷_, _++_, append-assoc, append-nil}
@@ -11,7 +11,7 @@ use Rattle.wire.specs.Numbers.{Bytes}
 use Rattle.wire.proofs.ListLaws.{lt-or-le}
 use Rattle.fingerprint_bodies.specs.Entries.{mapped, orEmpty}
 use Rattle.fingerprint_bodies.specs.Forms.{oneParameter}
-use Rattle.fingerprint_parameters.specs.Code.{ParameterFound, idsOf, countOf, Kept}
+use Rattle.fingerprint_parameters.specs.Code.{ParameterFound, idsOf, Kept}
 use Rattle.fingerprint_parameters.specs.declared.Count.the-variants as count
 use Rattle.fingerprint_parameters.proofs.ParameterLaws.{ids-cut, ids-of-end, next-ids-of, next-within}
 

@@ -1,10 +1,11 @@
 -- What the code's functions over transport parameters say, in terms of the forms. No call of document 01 cites this file.
-use Prim.Native.Nat.{ℕ, _%_, _≤_, _<_}
+use Prim.Native.Nat.{ℕ, _+_, _%_, _≤_, _<_}
 use mathlib.Core.Path.{_≡_}
-use mathlib.Core.Bool.{Bool, true, false}
+use mathlib.Core.Bool.{Bool, true, false, cond}
 use mathlib.Core.List.{List, map}
 use mathlib.Core.Option.{Option, none, some}
 use lib.ListN.{length, take, drop, getD}
+use lib.Dec.{ltb}
 use Rattle.wire.specs.Sums.{member}
 use Rattle.fingerprint_bodies.specs.Entries.{entry, orEmpty, mapped}
 use Rattle.fingerprint_bodies.specs.Body as value
@@ -26,6 +27,10 @@ pub record ParameterFound (bs : List ℕ) (id used : ℕ) : Type 0 where
 abbrev pub ParameterAs : Parameter → List ℕ → Type 0
 ParameterAs (parameter.Whole i used) bs = ParameterFound bs i used
 ParameterAs parameter.Cut bs = oneParameter bs ≡ none
+
+-- the same where id and length are one byte each, and so many bytes are left after them
+unfoldable pub shortOf : ℕ → ℕ → ℕ → Parameter
+shortOf left id size = cond (ltb left size) parameter.Cut (parameter.Whole id (2 + size))
 
 -- ---- Their ids
 

@@ -10,7 +10,7 @@ ghost use Rattle.fingerprint_bodies.specs.Entries.{orEmpty};
 ghost use Rattle.fingerprint_bodies.specs.Body.{parameters};
 ghost use Rattle.fingerprint_bodies.specs.Forms.{transportParameters, idOf};
 ghost use Rattle.fingerprint_bodies.specs.Code.{asked};
-ghost use Rattle.fingerprint_parameters.specs.Code.{ParameterAs, idsOf, Kept};
+ghost use Rattle.fingerprint_parameters.specs.Code.{ParameterAs, shortOf, idsOf, Kept};
 use varint::Got;
 
 // A parameter at the front of some bytes: its id, and the bytes that it takes.
@@ -26,7 +26,7 @@ pub enum Count {
 }
 
 // Id and length in varints of any width, and a value of that length.
-pub fn one_parameter(rest: &[u8]) -> Parameter
+fn any_parameter(rest: &[u8]) -> Parameter
     ensures { λ r. ⌜ ParameterAs r (now (rest .entry)) ⌝ }
 {
     let Got::Value(id) = varint::read(rest) else {
@@ -41,6 +41,31 @@ pub fn one_parameter(rest: &[u8]) -> Parameter
         return Parameter::Cut;
     }
     Parameter::Whole(id.value, head + length.value as usize)
+}
+
+// The same, where most parameters have an id and a length of one byte each: these take the short way, which is small enough to be
+// inlined.
+pub fn one_parameter(rest: &[u8]) -> Parameter
+    ensures { λ r. ⌜ ParameterAs r (now (rest .entry)) ⌝ }
+{
+    if 2 <= rest.len() {
+        let id = rest[0];
+        let length = rest[1];
+        if (id < 64) & (length < 64) {
+            return short_parameter(rest.len() - 2, id, length);
+        }
+    }
+    any_parameter(rest)
+}
+
+// A parameter whose id and length are one byte each, with so many bytes left after them.
+fn short_parameter(left: usize, id: u8, length: u8) -> Parameter
+    ensures { λ r. ⌜ r ≡ shortOf left id length ⌝ }
+{
+    if left < length as usize {
+        return Parameter::Cut;
+    }
+    Parameter::Whole(id as u64, 2 + length as usize)
 }
 
 // Counts the parameters, and keeps the ids of the first 64.

@@ -16,7 +16,7 @@ part-result-end : tie.Need-part-result-end
 part-result-end c = search needs
 
 returns : tie.Need-returns
-returns c = sym (drop-of-length-le ((c .before .before .args .body .now)) {i = (c .before .before .args .width)} (omega (arith, (c .before .if1 .taken))))
+returns c = sym (drop-of-length-le (c .before .before .args .body .now) {i = (c .before .before .args .width)} (omega (arith, c .before .if1 .taken)))
 
 sub-result-2 : tie.Need-sub-result-2
 sub-result-2 c = search needs
@@ -28,7 +28,7 @@ part-result-end-2 : tie.Need-part-result-end-2
 part-result-end-2 c = search needs
 
 returns-2 : tie.Need-returns-2
-returns-2 c = part-to-end ((c .before .before .args .body .now)) ((c .before .before .args .width))
+returns-2 c = part-to-end (c .before .before .args .body .now) (c .before .before .args .width)
 
 pub after-spec : {M : Type 1} → statement M
 after-spec =

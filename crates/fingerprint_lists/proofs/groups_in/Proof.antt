@@ -15,15 +15,13 @@ use Rattle.fingerprint_lists.proofs.groups_in.Statement.{statement}
 use Rattle.fingerprint_lists.proofs.groups_in.Tie as tie
 
 abbrev Inv-loop : tie.InvT-loop
-Inv-loop list n items₀ i₀ items i =
-    (i ≤ n) × Filled 64 (group 0) (map group (wordsIn list)) i items (map group (wordsIn (drop (2 * i) list)))
+Inv-loop list n items₀ i₀ items i = (i ≤ n) × Filled 64 (group 0) (map group (wordsIn list)) i items (map group (wordsIn (drop (2 * i) list)))
 
 abbrev μ-loop : tie.MeasureT-loop
-μ-loop list n items₀ i₀ items i =
-    n - i
+μ-loop list n items₀ i₀ items i = n - i
 
 loop-holds : tie.Need-loop-holds Inv-loop μ-loop
-loop-holds c = (zero-le, filled-start 64 (group 0) (map group (wordsIn ((c .before .args .list .now)))) (map group (wordsIn ((c .before .args .list .now)))) refl)
+loop-holds c = (zero-le, filled-start 64 (group 0) (map group (wordsIn (c .before .args .list .now))) (map group (wordsIn (c .before .args .list .now))) refl)
 
 mul-be16 : tie.Need-mul-be16 Inv-loop μ-loop
 mul-be16 c = search needs
@@ -38,7 +36,7 @@ part-be16-end : tie.Need-part-be16-end Inv-loop μ-loop
 part-be16-end c = search needs
 
 be16-requires : tie.Need-be16-requires Inv-loop μ-loop
-be16-requires c κs = omega (arith, length-part-to-end ((c .before .before .before .before .args .list .now)) (2 * (c .before .before .loop .i)), (c .before .loop-test .taken))
+be16-requires c κs = omega (arith, length-part-to-end (c .before .before .before .before .args .list .now) (2 * (c .before .before .loop .i)), c .before .loop-test .taken)
 
 mul-items : tie.Need-mul-items Inv-loop μ-loop
 mul-items c = search needs
@@ -54,21 +52,22 @@ loop-less c = search needs
 
 loop-again : tie.Need-loop-again Inv-loop μ-loop
 loop-again c =
-    let l = (c .before .before .before .loop) in
-    let s = (c .before .before .before .before .before .args .list .now) in
+    let l = c .before .before .before .loop in
+    let s = c .before .before .before .before .before .args .list .now in
     let p = map group (wordsIn s) in
     let r = map group (wordsIn (drop (2 * (l .i + 1)) s)) in
-    let word : number 256 (take 2 (drop (2 * l .i) s)) ≡ (c .be16 .result) = sym (rw (part-to-end s (2 * l .i)) at ((c .be16 .ensures))) in
-    let v : map group (wordsIn (drop (2 * l .i) s)) ≡ group ((c .be16 .result)) ∷ r =
-    ap (λ (x : List ℕ). map group x) (words-next s (l .i) ((c .before .before .loop-test .taken))) ∙ ap (λ (x : ℕ). group x ∷ r) word in
-    (omega arith, filled-next 64 (group 0) p (l .i) (l .items) (omega (arith, length-wordsIn s, length-map (wordsIn s) group, (c .before .before .before .before .before .pre))) (group ((c .be16 .result))) r (filled-as v (l .inv .1)))
+    let word : number 256 (take 2 (drop (2 * l .i) s)) ≡ (c .be16 .result) = sym (rw (part-to-end s (2 * l .i)) at (c .be16 .ensures)) in
+    let v : map group (wordsIn (drop (2 * l .i) s)) ≡ group (c .be16 .result) ∷ r =
+    ap (λ (x : List ℕ). map group x) (words-next s (l .i) (c .before .before .loop-test .taken)) ∙ ap (λ (x : ℕ). group x ∷ r) word in
+    let few : length p ≤ 64 = omega (arith, length-wordsIn s, length-map (wordsIn s) group, c .before .before .before .before .before .pre) in
+    (omega arith, filled-next 64 (group 0) p (l .i) (l .items) few (group (c .be16 .result)) r (filled-as v (l .inv .1)))
 
 returns : tie.Need-returns Inv-loop μ-loop
 returns c =
-    let l = (c .before .loop) in
-    let s = (c .before .before .before .args .list .now) in
+    let l = c .before .loop in
+    let s = c .before .before .before .args .list .now in
     let p = map group (wordsIn s) in
-    let f = filled-as (ap (λ (x : List ℕ). map group x) (words-end s (l .i) ((c .loop-test .left)))) (l .inv .1) in
+    let f = filled-as (ap (λ (x : List ℕ). map group x) (words-end s (l .i) (c .loop-test .left))) (l .inv .1) in
     groups-same (wordsIn s) (l .items) (length s / 2) (filled-end 64 (group 0) p (l .i) (l .items) f) (sym (length-map (wordsIn s) group ∙ length-wordsIn s))
 
 pub groups-in-spec : {M : Type 1} → statement M

@@ -14,13 +14,13 @@ after-requires : tie.Need-after-requires
 after-requires c κs = search needs
 
 shares-requires : tie.Need-shares-requires
-shares-requires c κs = rw ((c .after .ensures)) (shares-after ((c .before .before .args .body .now)) ((c .before .before .pre)) .found)
+shares-requires c κs = rw (c .after .ensures) (shares-after (c .before .before .args .body .now) (c .before .before .pre) .found)
 
 returns : tie.Need-returns
 returns c =
     (c .shares .ensures)
-    ∙ ap (λ (l : List ℕ). groupsOf (map groupOf (orEmpty (allEntries oneShare l)))) ((c .before .after .ensures))
-    ∙ ap (λ (l : List Share). groupsOf (map groupOf l)) (shares-after ((c .before .before .before .args .body .now)) ((c .before .before .before .pre)) .is)
+    ∙ ap (λ (l : List ℕ). groupsOf (map groupOf (orEmpty (allEntries oneShare l)))) (c .before .after .ensures)
+    ∙ ap (λ (l : List Share). groupsOf (map groupOf l)) (shares-after (c .before .before .before .args .body .now) (c .before .before .before .pre) .is)
 
 pub key-share-groups-spec : {M : Type 1} → statement M
 key-share-groups-spec = tie.close (tie.spec after-requires shares-requires returns)

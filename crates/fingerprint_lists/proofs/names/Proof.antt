@@ -23,51 +23,64 @@ abbrev shown : ℕ → ℕ → List (List ℕ) → List Span
 shown start at l = map spanOf (placed (start + at) l)
 
 abbrev Inv-loop : tie.InvT-loop
-Inv-loop list start n items₀ at₀ k₀ items at k =
-    Read oneName list 16 (span 0 0) (shown start) k at items
+Inv-loop list start n items₀ at₀ k₀ items at k = Read oneName list 16 (span 0 0) (shown start) k at items
 
 abbrev μ-loop : tie.MeasureT-loop
-μ-loop list start n items₀ at₀ k₀ items at k =
-    length list - at
+μ-loop list start n items₀ at₀ k₀ items at k = length list - at
 
-answer : (c : tie.After-one-name Inv-loop μ-loop) → NameAs ((c .one-name .result)) (drop ((c .before .before .before .loop .at)) ((c .before .before .before .before .before .args .list .now)))
-answer c = rw (part-to-end ((c .before .before .before .before .before .args .list .now)) ((c .before .before .before .loop .at))) at ((c .one-name .ensures))
+answer : (c : tie.After-one-name Inv-loop μ-loop) → NameAs (c .one-name .result) (drop (c .before .before .before .loop .at) (c .before .before .before .before .before .args .list .now))
+answer c = rw (part-to-end (c .before .before .before .before .before .args .list .now) (c .before .before .before .loop .at)) at (c .one-name .ensures)
 
-found : (c : tie.After-known-told Inv-loop μ-loop) → NameFound (drop ((c .before .before .before .before .before .before .loop .at)) ((c .before .before .before .before .before .before .before .before .args .list .now))) ((c .before .length .given .0 .0))
-found c = subst (λ (x : Name). NameAs x (drop ((c .before .before .before .before .before .before .loop .at)) ((c .before .before .before .before .before .before .before .before .args .list .now)))) ((c .before .length .given .1)) (answer (c .before .before .before))
+-- the bytes, the place in them, and what the entry there holds
+abbrev bytes : (c : tie.After-known-told Inv-loop μ-loop) → List ℕ
+bytes c = c .before .before .before .before .before .before .before .before .args .list .now
 
-within : (c : tie.After-known-told Inv-loop μ-loop) → (c .before .before .before .before .before .before .loop .at) + (1 + (c .before .length .given .0 .0)) ≤ length ((c .before .before .before .before .before .before .before .before .args .list .now))
-within c = omega (arith, found c .within, length-drop ((c .before .before .before .before .before .before .loop .at)) ((c .before .before .before .before .before .before .before .before .args .list .now)))
+abbrev place : (c : tie.After-known-told Inv-loop μ-loop) → ℕ
+place c = c .before .before .before .before .before .before .loop .at
+
+abbrev size : (c : tie.After-known-told Inv-loop μ-loop) → ℕ
+size c = c .before .length .given .0 .0
+
+abbrev start : (c : tie.After-known-told Inv-loop μ-loop) → ℕ
+start c = c .before .before .before .before .before .before .before .before .args .start
+
+abbrev name : (c : tie.After-known-told Inv-loop μ-loop) → List ℕ
+name c = take (size c) (drop 1 (drop (place c) (bytes c)))
+
+found : (c : tie.After-known-told Inv-loop μ-loop) → NameFound (drop (place c) (bytes c)) (size c)
+found c = subst (λ (x : Name). NameAs x (drop (place c) (bytes c))) (c .before .length .given .1) (answer (c .before .before .before))
+
+within : (c : tie.After-known-told Inv-loop μ-loop) → place c + (1 + size c) ≤ length (bytes c)
+within c = omega (arith, found c .within, length-drop (place c) (bytes c))
 
 puts : (c : tie.After-known-told Inv-loop μ-loop) (l : List (List ℕ))
-    → shown ((c .before .before .before .before .before .before .before .before .args .start)) ((c .before .before .before .before .before .before .loop .at)) (take ((c .before .length .given .0 .0)) (drop 1 (drop ((c .before .before .before .before .before .before .loop .at)) ((c .before .before .before .before .before .before .before .before .args .list .now)))) ∷ l) ≡ span ((c .before .before .before .before .before .before .before .before .args .start) + (c .before .before .before .before .before .before .loop .at) + 1) ((c .before .length .given .0 .0)) ∷ shown ((c .before .before .before .before .before .before .before .before .args .start)) ((c .before .before .before .before .before .before .loop .at) + (1 + (c .before .length .given .0 .0))) l
+    → shown (start c) (place c) (name c ∷ l) ≡ span (start c + place c + 1) (size c) ∷ shown (start c) (place c + (1 + size c)) l
 puts c l =
-    let d = drop ((c .before .before .before .before .before .before .loop .at)) ((c .before .before .before .before .before .before .before .before .args .list .now)) in
-    let n = (c .before .length .given .0 .0) in
-    placed-next ((c .before .before .before .before .before .before .before .before .args .start)) ((c .before .before .before .before .before .before .loop .at)) n (take n (drop 1 d)) (length-take-le n (drop 1 d) (omega (arith, found c .within, length-drop 1 d))) l
+    let d = drop (place c) (bytes c) in
+    placed-next (start c) (place c) (size c) (name c) (length-take-le (size c) (drop 1 d) (omega (arith, found c .within, length-drop 1 d))) l
 
-few : (c : tie.After-known-told Inv-loop μ-loop) → length (shown ((c .before .before .before .before .before .before .before .before .args .start)) 0 (orEmpty (allEntries oneName ((c .before .before .before .before .before .before .before .before .args .list .now))))) ≤ 16
+few : (c : tie.After-known-told Inv-loop μ-loop) → length (shown (start c) 0 (orEmpty (allEntries oneName (bytes c)))) ≤ 16
 few c =
-    let l = orEmpty (allEntries oneName ((c .before .before .before .before .before .before .before .before .args .list .now))) in
-    omega (arith, (c .before .before .before .before .before .before .before .before .pre .0 .few), length-map (placed ((c .before .before .before .before .before .before .before .before .args .start) + 0) l) spanOf, length-placed ((c .before .before .before .before .before .before .before .before .args .start) + 0) l)
+    let l = orEmpty (allEntries oneName (bytes c)) in
+    omega (arith, c .before .before .before .before .before .before .before .before .pre .0 .few, length-map (placed (start c + 0) l) spanOf, length-placed (start c + 0) l)
 
 room : (c : tie.After-known-told Inv-loop μ-loop) → (c .before .before .before .before .before .before .loop .k) < 16
 room c =
-    let n = (c .before .length .given .0 .0) in
-    read-room oneName ((c .before .before .before .before .before .before .before .before .args .list .now)) 16 (span 0 0) (shown ((c .before .before .before .before .before .before .before .before .args .start))) ((c .before .before .before .before .before .before .loop .k)) ((c .before .before .before .before .before .before .loop .at)) ((c .before .before .before .before .before .before .loop .items)) ((c .before .before .before .before .before .before .loop .inv)) ((c .before .before .before .before .before .loop-test .taken)) (1 + n)
-    (take n (drop 1 (drop ((c .before .before .before .before .before .before .loop .at)) ((c .before .before .before .before .before .before .before .before .args .list .now))))) (found c .is) (span ((c .before .before .before .before .before .before .before .before .args .start) + (c .before .before .before .before .before .before .loop .at) + 1) n) (puts c) (few c)
+    let l = c .before .before .before .before .before .before .loop in
+    read-room oneName (bytes c) 16 (span 0 0) (shown (start c)) (l .k) (l .at) (l .items) (l .inv) (c .before .before .before .before .before .loop-test .taken) (1 + size c)
+    (name c) (found c .is) (span (start c + l .at + 1) (size c)) (puts c) (few c)
 
 loop-holds : tie.Need-loop-holds Inv-loop μ-loop
-loop-holds c = read-start oneName ((c .before .args .list .now)) 16 (span 0 0) (shown ((c .before .args .start))) ((c .before .pre .0 .there))
+loop-holds c = read-start oneName (c .before .args .list .now) 16 (span 0 0) (shown (c .before .args .start)) (c .before .pre .0 .there)
 
 sub-one-name : tie.Need-sub-one-name Inv-loop μ-loop
-sub-one-name c = omega (arith, (c .loop-test .taken))
+sub-one-name c = omega (arith, c .loop-test .taken)
 
 part-one-name-start : tie.Need-part-one-name-start Inv-loop μ-loop
-part-one-name-start c = omega (arith, (c .loop-test .taken))
+part-one-name-start c = omega (arith, c .loop-test .taken)
 
 part-one-name-end : tie.Need-part-one-name-end Inv-loop μ-loop
-part-one-name-end c = omega (arith, (c .loop-test .taken))
+part-one-name-end c = omega (arith, c .loop-test .taken)
 
 one-name-requires : tie.Need-one-name-requires Inv-loop μ-loop
 one-name-requires c κs = search needs
@@ -79,10 +92,10 @@ enum-told : tie.Need-enum-told Inv-loop μ-loop
 enum-told c = search needs
 
 add-t12 : tie.Need-add-t12 Inv-loop μ-loop
-add-t12 c = omega (arith, within c, (c .before .before .before .before .before .before .before .before .pre .1))
+add-t12 c = omega (arith, within c, c .before .before .before .before .before .before .before .before .pre .1)
 
 add-t15 : tie.Need-add-t15 Inv-loop μ-loop
-add-t15 c = omega (arith, within c, (c .before .before .before .before .before .before .before .before .pre .1))
+add-t15 c = omega (arith, within c, c .before .before .before .before .before .before .before .before .pre .1)
 
 mul-items : tie.Need-mul-items Inv-loop μ-loop
 mul-items c = omega (arith, room c)
@@ -104,31 +117,29 @@ loop-less c = omega (arith, within c)
 
 loop-again : tie.Need-loop-again Inv-loop μ-loop
 loop-again c =
-    let l = (c .before .before .before .before .before .before .loop) in
-    let s = (c .before .before .before .before .before .before .before .before .args .list .now) in
-    let n = (c .before .length .given .0 .0) in
-    let e : l .at + (1 + n) ≡ l .at + 1 + n = omega arith in
+    let l = c .before .before .before .before .before .before .loop in
+    let e : l .at + (1 + size c) ≡ l .at + 1 + size c = omega arith in
     rw e at
-    (read-next oneName s 16 (span 0 0) (shown ((c .before .before .before .before .before .before .before .before .args .start))) (l .k) (l .at) (l .items) (l .inv) ((c .before .before .before .before .before .loop-test .taken)) (1 + n)
-    (take n (drop 1 (drop (l .at) s))) (found c .is) (span ((c .before .before .before .before .before .before .before .before .args .start) + l .at + 1) n) (puts c) (few c) (omega arith) (found c .within))
+    (read-next oneName (bytes c) 16 (span 0 0) (shown (start c)) (l .k) (l .at) (l .items) (l .inv) (c .before .before .before .before .before .loop-test .taken) (1 + size c)
+    (name c) (found c .is) (span (start c + l .at + 1) (size c)) (puts c) (few c) (omega arith) (found c .within))
 
 returns : tie.Need-returns Inv-loop μ-loop
 unfolding placed
 returns c =
-    let l = (c .before .loop) in
-    let s = (c .before .before .before .args .list .now) in
-    let a = (c .before .before .before .args .start) in
+    let l = c .before .loop in
+    let s = c .before .before .before .args .list .now in
+    let a = c .before .before .before .args .start in
     spans-same (placed (a + 0) (orEmpty (allEntries oneName s))) (l .items) (l .k)
-    (read-items oneName s 16 (span 0 0) (shown a) (l .k) (l .at) (l .items) (l .inv) ((c .loop-test .left)) refl)
-    (read-count oneName s 16 (span 0 0) (shown a) (l .k) (l .at) (l .items) (l .inv) ((c .loop-test .left)) refl)
+    (read-items oneName s 16 (span 0 0) (shown a) (l .k) (l .at) (l .items) (l .inv) (c .loop-test .left) refl)
+    (read-count oneName s 16 (span 0 0) (shown a) (l .k) (l .at) (l .items) (l .inv) (c .loop-test .left) refl)
     ∙ ap (λ (n : ℕ). spansOf (placed n (orEmpty (allEntries oneName s)))) (add-zero a)
 
 returns-2 : tie.Need-returns-2 Inv-loop μ-loop
 returns-2 c =
-    let l = (c .before .before .before .before .before .loop) in
-    let s = (c .before .before .before .before .before .before .before .args .list .now) in
-    let cut : oneName (drop (l .at) s) ≡ none = subst (λ (x : Name). NameAs x (drop (l .at) s)) ((c .enum-told .given .1)) (answer (c .before .before)) in
-    absurd (read-cut oneName s 16 (span 0 0) (shown ((c .before .before .before .before .before .before .before .args .start))) (l .k) (l .at) (l .items) (l .inv) ((c .before .before .before .before .loop-test .taken)) cut)
+    let l = c .before .before .before .before .before .loop in
+    let s = c .before .before .before .before .before .before .before .args .list .now in
+    let cut : oneName (drop (l .at) s) ≡ none = subst (λ (x : Name). NameAs x (drop (l .at) s)) (c .enum-told .given .1) (answer (c .before .before)) in
+    absurd (read-cut oneName s 16 (span 0 0) (shown (c .before .before .before .before .before .before .before .args .start)) (l .k) (l .at) (l .items) (l .inv) (c .before .before .before .before .loop-test .taken) cut)
 
 pub names-spec : {M : Type 1} → statement M
 names-spec =

@@ -28,9 +28,9 @@ names-requires c κs = (record { there = refl; few = omega arith }, omega arith)
 returns : tie.Need-returns
 unfolding allEntries entries orEmpty placed
 returns c =
-    let s = (c .before .before .before .before .args .body .now) in
-    let none-after : drop 2 s ≡ [] = drop-of-length-le s {i = 2} (omega (arith, (c .before .before .if1 .taken))) in
-    let is : [] ≡ orEmpty (protocolNames s) = rw none-after at (names-after s ((c .before .before .before .before .pre .0)) .is) in
+    let s = c .before .before .before .before .args .body .now in
+    let none-after : drop 2 s ≡ [] = drop-of-length-le s {i = 2} (omega (arith, c .before .before .if1 .taken)) in
+    let is : [] ≡ orEmpty (protocolNames s) = rw none-after at (names-after s (c .before .before .before .before .pre .0) .is) in
     (c .names .ensures) ∙ ap (λ (l : List (List ℕ)). spansOf (placed ((c .before .before .before .before .args .start) + 2) l)) is
 
 sub-names-2 : tie.Need-sub-names-2
@@ -46,14 +46,16 @@ add-names : tie.Need-add-names
 add-names c = search needs
 
 names-requires-2 : tie.Need-names-requires-2
-names-requires-2 c κs = rw (part-to-end ((c .before .before .before .args .body .now)) 2) (names-after ((c .before .before .before .args .body .now)) ((c .before .before .before .pre .0)) .found, omega (arith, length-drop 2 ((c .before .before .before .args .body .now)), (c .before .before .before .pre .1), (c .before .if1 .left)))
+names-requires-2 c κs =
+    let s = c .before .before .before .args .body .now in
+    rw (part-to-end s 2) (names-after s (c .before .before .before .pre .0) .found, omega (arith, length-drop 2 s, c .before .before .before .pre .1, c .before .if1 .left))
 
 returns-2 : tie.Need-returns-2
 returns-2 c =
-    let s = (c .before .before .before .before .args .body .now) in
+    let s = c .before .before .before .before .args .body .now in
     (c .names2 .ensures)
     ∙ ap (λ (l : List ℕ). spansOf (placed ((c .before .before .before .before .args .start) + 2) (orEmpty (allEntries oneName l)))) (part-to-end s 2)
-    ∙ ap (λ (l : List (List ℕ)). spansOf (placed ((c .before .before .before .before .args .start) + 2) l)) (names-after s ((c .before .before .before .before .pre .0)) .is)
+    ∙ ap (λ (l : List (List ℕ)). spansOf (placed ((c .before .before .before .before .args .start) + 2) l)) (names-after s (c .before .before .before .before .pre .0) .is)
 
 pub protocol-names-spec : {M : Type 1} → statement M
 protocol-names-spec =

@@ -22,44 +22,56 @@ abbrev shown : ℕ → List value.Share → List Group
 shown at l = map group (map groupOf l)
 
 abbrev Inv-loop : tie.InvT-loop
-Inv-loop list n items₀ at₀ k₀ items at k =
-    Read oneShare list 64 (group 0) shown k at items
+Inv-loop list n items₀ at₀ k₀ items at k = Read oneShare list 64 (group 0) shown k at items
 
 abbrev μ-loop : tie.MeasureT-loop
-μ-loop list n items₀ at₀ k₀ items at k =
-    length list - at
+μ-loop list n items₀ at₀ k₀ items at k = length list - at
 
-answer : (c : tie.After-one-share Inv-loop μ-loop) → ShareAs ((c .one-share .result)) (drop ((c .before .before .before .loop .at)) ((c .before .before .before .before .before .args .list .now)))
-answer c = rw (part-to-end ((c .before .before .before .before .before .args .list .now)) ((c .before .before .before .loop .at))) at ((c .one-share .ensures))
+answer : (c : tie.After-one-share Inv-loop μ-loop) → ShareAs (c .one-share .result) (drop (c .before .before .before .loop .at) (c .before .before .before .before .before .args .list .now))
+answer c = rw (part-to-end (c .before .before .before .before .before .args .list .now) (c .before .before .before .loop .at)) at (c .one-share .ensures)
 
-found : (c : tie.After-known-told Inv-loop μ-loop) → ShareFound (drop ((c .before .before .before .before .before .before .loop .at)) ((c .before .before .before .before .before .before .before .before .args .list .now))) ((c .before .group .given .0 .0)) ((c .before .group .given .0 .1 .0))
-found c = subst (λ (x : Share). ShareAs x (drop ((c .before .before .before .before .before .before .loop .at)) ((c .before .before .before .before .before .before .before .before .args .list .now)))) ((c .before .group .given .1)) (answer (c .before .before .before))
+-- the bytes, the place in them, and what the entry there holds
+abbrev bytes : (c : tie.After-known-told Inv-loop μ-loop) → List ℕ
+bytes c = c .before .before .before .before .before .before .before .before .args .list .now
+
+abbrev place : (c : tie.After-known-told Inv-loop μ-loop) → ℕ
+place c = c .before .before .before .before .before .before .loop .at
+
+abbrev number : (c : tie.After-known-told Inv-loop μ-loop) → ℕ
+number c = c .before .group .given .0 .0
+
+abbrev used : (c : tie.After-known-told Inv-loop μ-loop) → ℕ
+used c = c .before .group .given .0 .1 .0
+
+found : (c : tie.After-known-told Inv-loop μ-loop) → ShareFound (drop (place c) (bytes c)) (number c) (used c)
+found c = subst (λ (x : Share). ShareAs x (drop (place c) (bytes c))) (c .before .group .given .1) (answer (c .before .before .before))
 
 puts : (c : tie.After-known-told Inv-loop μ-loop) (l : List value.Share)
-    → shown ((c .before .before .before .before .before .before .loop .at)) (found c .found ∷ l) ≡ group ((c .before .group .given .0 .0)) ∷ shown ((c .before .before .before .before .before .before .loop .at) + (c .before .group .given .0 .1 .0)) l
+    → shown (place c) (found c .found ∷ l) ≡ group (number c) ∷ shown (place c + used c) l
 puts c l = ap (λ (g : ℕ). group g ∷ map group (map groupOf l)) (found c .group-is)
 
-few : (c : tie.After-known-told Inv-loop μ-loop) → length (shown 0 (orEmpty (allEntries oneShare ((c .before .before .before .before .before .before .before .before .args .list .now))))) ≤ 64
+few : (c : tie.After-known-told Inv-loop μ-loop) → length (shown 0 (orEmpty (allEntries oneShare (bytes c)))) ≤ 64
 few c =
-    let l = orEmpty (allEntries oneShare ((c .before .before .before .before .before .before .before .before .args .list .now))) in
-    omega (arith, (c .before .before .before .before .before .before .before .before .pre .few), length-map (map groupOf l) group, length-map l groupOf)
+    let l = orEmpty (allEntries oneShare (bytes c)) in
+    omega (arith, c .before .before .before .before .before .before .before .before .pre .few, length-map (map groupOf l) group, length-map l groupOf)
 
 room : (c : tie.After-known-told Inv-loop μ-loop) → (c .before .before .before .before .before .before .loop .k) < 64
 room c =
-    read-room oneShare ((c .before .before .before .before .before .before .before .before .args .list .now)) 64 (group 0) shown ((c .before .before .before .before .before .before .loop .k)) ((c .before .before .before .before .before .before .loop .at)) ((c .before .before .before .before .before .before .loop .items)) ((c .before .before .before .before .before .before .loop .inv)) ((c .before .before .before .before .before .loop-test .taken)) ((c .before .group .given .0 .1 .0))
-    (found c .found) (found c .is) (group ((c .before .group .given .0 .0))) (puts c) (few c)
+    let l = c .before .before .before .before .before .before .loop in
+    read-room oneShare (bytes c) 64 (group 0) shown (l .k) (l .at) (l .items) (l .inv) (c .before .before .before .before .before .loop-test .taken) (used c)
+    (found c .found) (found c .is) (group (number c)) (puts c) (few c)
 
 loop-holds : tie.Need-loop-holds Inv-loop μ-loop
-loop-holds c = read-start oneShare ((c .before .args .list .now)) 64 (group 0) shown ((c .before .pre .there))
+loop-holds c = read-start oneShare (c .before .args .list .now) 64 (group 0) shown (c .before .pre .there)
 
 sub-one-share : tie.Need-sub-one-share Inv-loop μ-loop
-sub-one-share c = omega (arith, (c .loop-test .taken))
+sub-one-share c = omega (arith, c .loop-test .taken)
 
 part-one-share-start : tie.Need-part-one-share-start Inv-loop μ-loop
-part-one-share-start c = omega (arith, (c .loop-test .taken))
+part-one-share-start c = omega (arith, c .loop-test .taken)
 
 part-one-share-end : tie.Need-part-one-share-end Inv-loop μ-loop
-part-one-share-end c = omega (arith, (c .loop-test .taken))
+part-one-share-end c = omega (arith, c .loop-test .taken)
 
 one-share-requires : tie.Need-one-share-requires Inv-loop μ-loop
 one-share-requires c κs = search needs
@@ -77,33 +89,34 @@ array-set-from-items : tie.Need-array-set-from-items Inv-loop μ-loop
 array-set-from-items c = omega (arith, room c)
 
 add-at : tie.Need-add-at Inv-loop μ-loop
-add-at c = omega (arith, found c .within, length-drop ((c .before .before .before .before .before .before .loop .at)) ((c .before .before .before .before .before .before .before .before .args .list .now)))
+add-at c = omega (arith, found c .within, length-drop (place c) (bytes c))
 
 add-k : tie.Need-add-k Inv-loop μ-loop
 add-k c = omega (arith, room c)
 
 loop-less : tie.Need-loop-less Inv-loop μ-loop
-loop-less c = omega (arith, found c .some, found c .within, length-drop ((c .before .before .before .before .before .before .loop .at)) ((c .before .before .before .before .before .before .before .before .args .list .now)))
+loop-less c = omega (arith, found c .some, found c .within, length-drop (place c) (bytes c))
 
 loop-again : tie.Need-loop-again Inv-loop μ-loop
 loop-again c =
-    read-next oneShare ((c .before .before .before .before .before .before .before .before .args .list .now)) 64 (group 0) shown ((c .before .before .before .before .before .before .loop .k)) ((c .before .before .before .before .before .before .loop .at)) ((c .before .before .before .before .before .before .loop .items)) ((c .before .before .before .before .before .before .loop .inv)) ((c .before .before .before .before .before .loop-test .taken)) ((c .before .group .given .0 .1 .0))
-    (found c .found) (found c .is) (group ((c .before .group .given .0 .0))) (puts c) (few c) (found c .some) (found c .within)
+    let l = c .before .before .before .before .before .before .loop in
+    read-next oneShare (bytes c) 64 (group 0) shown (l .k) (l .at) (l .items) (l .inv) (c .before .before .before .before .before .loop-test .taken) (used c)
+    (found c .found) (found c .is) (group (number c)) (puts c) (few c) (found c .some) (found c .within)
 
 returns : tie.Need-returns Inv-loop μ-loop
 returns c =
-    let l = (c .before .loop) in
-    let s = (c .before .before .before .args .list .now) in
+    let l = c .before .loop in
+    let s = c .before .before .before .args .list .now in
     groups-same (map groupOf (orEmpty (allEntries oneShare s))) (l .items) (l .k)
-    (read-items oneShare s 64 (group 0) shown (l .k) (l .at) (l .items) (l .inv) ((c .loop-test .left)) refl)
-    (read-count oneShare s 64 (group 0) shown (l .k) (l .at) (l .items) (l .inv) ((c .loop-test .left)) refl)
+    (read-items oneShare s 64 (group 0) shown (l .k) (l .at) (l .items) (l .inv) (c .loop-test .left) refl)
+    (read-count oneShare s 64 (group 0) shown (l .k) (l .at) (l .items) (l .inv) (c .loop-test .left) refl)
 
 returns-2 : tie.Need-returns-2 Inv-loop μ-loop
 returns-2 c =
-    let l = (c .before .before .before .before .before .loop) in
-    let s = (c .before .before .before .before .before .before .before .args .list .now) in
-    let cut : oneShare (drop (l .at) s) ≡ none = subst (λ (x : Share). ShareAs x (drop (l .at) s)) ((c .enum-told .given .1)) (answer (c .before .before)) in
-    absurd (read-cut oneShare s 64 (group 0) shown (l .k) (l .at) (l .items) (l .inv) ((c .before .before .before .before .loop-test .taken)) cut)
+    let l = c .before .before .before .before .before .loop in
+    let s = c .before .before .before .before .before .before .before .args .list .now in
+    let cut : oneShare (drop (l .at) s) ≡ none = subst (λ (x : Share). ShareAs x (drop (l .at) s)) (c .enum-told .given .1) (answer (c .before .before)) in
+    absurd (read-cut oneShare s 64 (group 0) shown (l .k) (l .at) (l .items) (l .inv) (c .before .before .before .before .loop-test .taken) cut)
 
 pub shares-spec : {M : Type 1} → statement M
 shares-spec =

@@ -14,15 +14,13 @@ use Rattle.fingerprint_lists.proofs.words_in.Statement.{statement}
 use Rattle.fingerprint_lists.proofs.words_in.Tie as tie
 
 abbrev Inv-loop : tie.InvT-loop
-Inv-loop list n items₀ i₀ items i =
-    (i ≤ n) × Filled 64 0 (wordsIn list) i items (wordsIn (drop (2 * i) list))
+Inv-loop list n items₀ i₀ items i = (i ≤ n) × Filled 64 0 (wordsIn list) i items (wordsIn (drop (2 * i) list))
 
 abbrev μ-loop : tie.MeasureT-loop
-μ-loop list n items₀ i₀ items i =
-    n - i
+μ-loop list n items₀ i₀ items i = n - i
 
 loop-holds : tie.Need-loop-holds Inv-loop μ-loop
-loop-holds c = (zero-le, filled-start 64 0 (wordsIn ((c .before .args .list .now))) (wordsIn ((c .before .args .list .now))) refl)
+loop-holds c = (zero-le, filled-start 64 0 (wordsIn (c .before .args .list .now)) (wordsIn (c .before .args .list .now)) refl)
 
 mul-be16 : tie.Need-mul-be16 Inv-loop μ-loop
 mul-be16 c = search needs
@@ -37,7 +35,7 @@ part-be16-end : tie.Need-part-be16-end Inv-loop μ-loop
 part-be16-end c = search needs
 
 be16-requires : tie.Need-be16-requires Inv-loop μ-loop
-be16-requires c κs = omega (arith, length-part-to-end ((c .before .before .before .before .args .list .now)) (2 * (c .before .before .loop .i)), (c .before .loop-test .taken))
+be16-requires c κs = omega (arith, length-part-to-end (c .before .before .before .before .args .list .now) (2 * (c .before .before .loop .i)), c .before .loop-test .taken)
 
 mul-items : tie.Need-mul-items Inv-loop μ-loop
 mul-items c = search needs
@@ -53,18 +51,19 @@ loop-less c = search needs
 
 loop-again : tie.Need-loop-again Inv-loop μ-loop
 loop-again c =
-    let l = (c .before .before .before .loop) in
-    let s = (c .before .before .before .before .before .args .list .now) in
+    let l = c .before .before .before .loop in
+    let s = c .before .before .before .before .before .args .list .now in
     let r = wordsIn (drop (2 * (l .i + 1)) s) in
-    let word : number 256 (take 2 (drop (2 * l .i) s)) ≡ (c .be16 .result) = sym (rw (part-to-end s (2 * l .i)) at ((c .be16 .ensures))) in
-    let v : wordsIn (drop (2 * l .i) s) ≡ (c .be16 .result) ∷ r = words-next s (l .i) ((c .before .before .loop-test .taken)) ∙ ap (λ (x : ℕ). x ∷ r) word in
-    (omega arith, filled-next 64 0 (wordsIn s) (l .i) (l .items) (omega (arith, length-wordsIn s, (c .before .before .before .before .before .pre))) ((c .be16 .result)) r (filled-as v (l .inv .1)))
+    let word : number 256 (take 2 (drop (2 * l .i) s)) ≡ (c .be16 .result) = sym (rw (part-to-end s (2 * l .i)) at (c .be16 .ensures)) in
+    let v : wordsIn (drop (2 * l .i) s) ≡ (c .be16 .result) ∷ r = words-next s (l .i) (c .before .before .loop-test .taken) ∙ ap (λ (x : ℕ). x ∷ r) word in
+    let few : length (wordsIn s) ≤ 64 = omega (arith, length-wordsIn s, c .before .before .before .before .before .pre) in
+    (omega arith, filled-next 64 0 (wordsIn s) (l .i) (l .items) few (c .be16 .result) r (filled-as v (l .inv .1)))
 
 returns : tie.Need-returns Inv-loop μ-loop
 returns c =
-    let l = (c .before .loop) in
-    let s = (c .before .before .before .args .list .now) in
-    let f = filled-as (words-end s (l .i) ((c .loop-test .left))) (l .inv .1) in
+    let l = c .before .loop in
+    let s = c .before .before .before .args .list .now in
+    let f = filled-as (words-end s (l .i) (c .loop-test .left)) (l .inv .1) in
     words-same (wordsIn s) (l .items) (length s / 2) (filled-end 64 0 (wordsIn s) (l .i) (l .items) f) (sym (length-wordsIn s))
 
 pub words-in-spec : {M : Type 1} → statement M

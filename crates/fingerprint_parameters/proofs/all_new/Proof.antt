@@ -1,4 +1,5 @@
-use mathlib.Core.Path.{_≡_, refl, sym, ap, _∙_}
+-- The loop keeps: the first i numbers are distinct, and each has its mark. Assumes nothing.
+use mathlib.Core.Path.{_≡_, refl, sym, _∙_}
 use mathlib.Core.Bool.{true, false}
 use mathlib.Core.Logic.{⊎-elim}
 use Prim.Native.Nat.{_-_, _%_, _≤_, _<_, zero-le}
@@ -6,83 +7,91 @@ use denote.Ref.{now}
 use lib.ListN.{length, take, getD, replicate, length-set}
 use Rattle.wire.specs.Sums.{member, distinct}
 use Rattle.fingerprint_parameters.specs.Code.{Marked}
-use Rattle.fingerprint_parameters.proofs.MemberLaws.{new-start, new-next, new-not, marked-start, marked-next, unmarked-new}
+use Rattle.fingerprint_parameters.proofs.MemberLaws.{new-start, new-next, new-not}
+use Rattle.fingerprint_parameters.proofs.MarkLaws.{marked-start, marked-next, unmarked-new}
 use borrow.Author.Needs.{needs}
 use native.Mathlib.Omega.{arith}
 use Rattle.fingerprint_parameters.proofs.all_new.Statement.{statement}
 use Rattle.fingerprint_parameters.proofs.all_new.Tie as tie
-use Rattle.fingerprint_parameters.proofs.all_new.Reads as reads
-use Rattle.fingerprint_parameters.proofs.all_new.Lts as lts
-use Rattle.fingerprint_parameters.proofs.among.Reads as among-reads
 
 abbrev Inv-loop : tie.InvT-loop
-Inv-loop ids n marks₀ i₀ marks i =
-    (i ≤ n) × (length marks ≡ 64) × Marked marks (take i ids) × (distinct (take i ids) ≡ true)
+Inv-loop ids n marks₀ i₀ marks i = (i ≤ n) × (length marks ≡ 64) × Marked marks (take i ids) × (distinct (take i ids) ≡ true)
 
 abbrev μ-loop : tie.MeasureT-loop
-μ-loop ids n marks₀ i₀ marks i =
-    n - i
+μ-loop ids n marks₀ i₀ marks i = n - i
 
-within : (c : tie.In-loop Inv-loop μ-loop) → (c .before .loop .i) < length (now (c .before .before .args .ids))
-within c = omega (arith, (c .loop-test .taken), (c .before .before .pre .0), (c .before .before .pre .1))
+within : (c : tie.In-loop Inv-loop μ-loop) →
+    let args = c .before .before .args in
+    let loop = c .before .loop in
+    loop .i < length (now (args .ids))
+within c =
+    let pre = c .before .before .pre in
+    omega (arith, c .loop-test .taken, pre .0, pre .1)
 
-not-before : (c : tie.Joined1 Inv-loop μ-loop) → member (getD (now (c .before .before .before .before .args .ids)) ((c .before .before .before .loop .i)) 0) (take ((c .before .before .before .loop .i)) (now (c .before .before .before .before .args .ids))) ≡ false
+not-before : (c : tie.Joined1 Inv-loop μ-loop) →
+    let args = c .before .before .before .before .args in
+    let loop = c .before .before .before .loop in
+    member (getD (now (args .ids)) (loop .i) 0) (take (loop .i) (now (args .ids))) ≡ false
 not-before c =
+    let args = c .before .before .before .before .args in
+    let loop = c .before .before .before .loop in
     ⊎-elim (λ p. sym (p .1 .ensures) ∙ p .2 .left)
-    (λ q. unmarked-new ((c .before .before .before .loop .marks)) (take ((c .before .before .before .loop .i)) (now (c .before .before .before .before .args .ids))) (getD (now (c .before .before .before .before .args .ids)) ((c .before .before .before .loop .i)) 0) ((c .before .before .before .loop .inv .2)) (q .left))
-    ((c .if1 .came))
+    (λ q. unmarked-new (loop .marks) (take (loop .i) (now (args .ids))) (getD (now (args .ids)) (loop .i) 0) (loop .inv .2) (q .left))
+    (c .if1 .came)
 
--- src/lib.rt:89:5
 loop-holds : tie.Need-loop-holds Inv-loop μ-loop
 loop-holds c = (zero-le, refl, marked-start (replicate 64 false) (now (c .args .ids)), new-start (now (c .args .ids)))
 
--- src/lib.rt:90:18
 mul-id : tie.Need-mul-id Inv-loop μ-loop
 mul-id c = search needs
 
--- src/lib.rt:90:18
 element-copy-out-id : tie.Need-element-copy-out-id Inv-loop μ-loop
 element-copy-out-id c = search needs
 
--- src/lib.rt:92:12
 array-read-if1 : tie.Need-array-read-if1 Inv-loop μ-loop
 array-read-if1 c = search needs
 
--- src/lib.rt:93:16
 among-requires : tie.Need-among-requires Inv-loop μ-loop
 among-requires c κs = search needs
 
--- src/lib.rt:94:17
 returns : tie.Need-returns Inv-loop μ-loop
-returns c = sym (new-not (now (c .before .before .before .before .before .before .args .ids)) ((c .before .before .before .before .before .loop .i)) (within (c .before .before .before .before)) ((c .before .before .before .before .before .before .args .n)) ((c .before .before .before .before .loop-test .taken)) (sym ((c .before .among .ensures)) ∙ (c .if2 .taken)))
+returns c =
+    let args = c .before .before .before .before .before .before .args in
+    let loop = c .before .before .before .before .before .loop in
+    let test = c .before .before .before .before .loop-test in
+    let turn = c .before .before .before .before in
+    let among = c .before .among in
+    sym (new-not (now (args .ids)) (loop .i) (within turn) (args .n) (test .taken) (sym (among .ensures) ∙ c .if2 .taken))
 
--- src/lib.rt:97:9
 array-write-marks : tie.Need-array-write-marks Inv-loop μ-loop
 array-write-marks c = search needs
 
--- src/lib.rt:98:13
 add-i : tie.Need-add-i Inv-loop μ-loop
 add-i c = search needs
 
--- src/lib.rt:89:5
 loop-less : tie.Need-loop-less Inv-loop μ-loop
 loop-less c = search needs
 
--- src/lib.rt:89:5
 loop-again : tie.Need-loop-again Inv-loop μ-loop
 loop-again c =
-    let l = (c .before .before .before .loop) in
-    let s = now (c .before .before .before .before .args .ids) in
-    let h = within (c .before .before) in (
-      omega (arith, (c .before .before .loop-test .taken)),
-      length-set (l .marks) (getD s (l .i) 0 % 64) true ∙ l .inv .1,
-      marked-next s (l .i) h (l .marks) (l .inv .1) (l .inv .2),
-      new-next s (l .i) h (l .inv .3) (not-before c),
+    let args = c .before .before .before .before .args in
+    let loop = c .before .before .before .loop in
+    let test = c .before .before .loop-test in
+    let turn = c .before .before in
+    let s = now (args .ids) in
+    let h = within turn in (
+      omega (arith, test .taken),
+      length-set (loop .marks) (getD s (loop .i) 0 % 64) true ∙ loop .inv .1,
+      marked-next s (loop .i) h (loop .marks) (loop .inv .1) (loop .inv .2),
+      new-next s (loop .i) h (loop .inv .3) (not-before c),
     )
 
--- src/lib.rt:83:1
 returns-2 : tie.Need-returns-2 Inv-loop μ-loop
-returns-2 c = let z : (c .before .loop .i) ≡ (c .before .before .args .n) = omega (arith, (c .before .loop .inv .0), (c .loop-test .left)) in sym (rw z at ((c .before .loop .inv .3)))
+returns-2 c =
+    let args = c .before .before .args in
+    let loop = c .before .loop in
+    let z : loop .i ≡ (args .n) = omega (arith, loop .inv .0, c .loop-test .left) in
+    sym (rw z at (loop .inv .3))
 
 pub all-new-spec : {M : Type 1} → statement M
 all-new-spec =

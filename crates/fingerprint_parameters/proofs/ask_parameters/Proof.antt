@@ -1,3 +1,4 @@
+-- Each answer is that of the questions in their order, by the count and the ids that were read. Assumes nothing.
 use mathlib.Core.Path.{sym, _∙_}
 use denote.Ref.{now}
 use Rattle.fingerprint_parameters.specs.Code.{idsOf, Kept}
@@ -6,54 +7,71 @@ use Rattle.fingerprint_parameters.proofs.AskedLaws.{asked-cut, all-ther
 use borrow.Author.Needs.{needs}
 use Rattle.fingerprint_parameters.proofs.ask_parameters.Statement.{statement}
 use Rattle.fingerprint_parameters.proofs.ask_parameters.Tie as tie
-use Rattle.fingerprint_parameters.proofs.ask_parameters.Reads as reads
-use Rattle.fingerprint_parameters.proofs.ask_parameters.Lts as lts
-use Rattle.fingerprint_parameters.proofs.all_new.Reads as all-new-reads
-use Rattle.fingerprint_parameters.proofs.ids_new.Reads as ids-new-reads
-use Rattle.fingerprint_parameters.proofs.read_ids.Reads as read-ids-reads
 
-kept : (c : tie.After-known-told) → Kept (idsOf (now (c .before .before .before .before .before .before .args .body))) (count.Are ((c .before .k .given .0 .0))) ((c .before .before .before .read-ids .last .1 .0))
-kept c = rw ((c .before .k .given .1)) at ((c .before .before .before .read-ids .ensures))
+kept : (c : tie.After-known-told) →
+    let args = c .before .before .before .before .before .before .args in
+    let reading = c .before .before .before .read-ids in
+    let k = c .before .k in
+    Kept (idsOf (now (args .body))) (count.Are (k .given .0 .0)) (reading .last .1 .0)
+kept c =
+    let reading = c .before .before .before .read-ids in
+    let k = c .before .k in
+    rw (k .given .1) at (reading .ensures)
 
--- src/lib.rt:146:25
 read-ids-requires : tie.Need-read-ids-requires
 read-ids-requires c κs = search needs
 
--- src/lib.rt:146:20
 enum-known-k : tie.Need-enum-known-k
 enum-known-k c = search needs
 
--- src/lib.rt:147:9
 enum-told : tie.Need-enum-told
 enum-told c = search needs
 
--- src/lib.rt:147:9
 returns : tie.Need-returns
-returns c = asked-cut (now (c .before .before .before .before .before .args .body)) _ (rw ((c .enum-told .given .1)) at ((c .before .before .read-ids .ensures)))
+returns c =
+    let args = c .before .before .before .before .before .args in
+    let reading = c .before .before .read-ids in
+    asked-cut (now (args .body)) _ (rw (c .enum-told .given .1) at (reading .ensures))
 
--- src/lib.rt:150:12
 all-new-requires : tie.Need-all-new-requires
 all-new-requires c κs = search needs
 
--- src/lib.rt:151:13
 returns-2 : tie.Need-returns-2
-returns-2 c = asked-good (now (c .before .before .before .before .before .before .before .before .before .before .args .body)) _ _ (kept (c .before .before .before .before)) ((c .before .before .before .if1 .taken)) (sym ((c .before .all-new .ensures)) ∙ (c .if2 .taken))
+returns-2 c =
+    let args = c .before .before .before .before .before .before .before .before .before .before .args in
+    let at-entry = c .before .before .before .before in
+    let if1 = c .before .before .before .if1 in
+    let looked = c .before .all-new in
+    asked-good (now (args .body)) _ _ (kept at-entry) (if1 .taken) (sym (looked .ensures) ∙ c .if2 .taken)
 
--- src/lib.rt:153:9
 returns-3 : tie.Need-returns-3
-returns-3 c = asked-few (now (c .before .before .before .before .before .before .before .before .before .before .args .body)) _ _ (kept (c .before .before .before .before)) ((c .before .before .before .if1 .taken)) (sym ((c .before .all-new .ensures)) ∙ (c .if2 .left))
+returns-3 c =
+    let args = c .before .before .before .before .before .before .before .before .before .before .args in
+    let at-entry = c .before .before .before .before in
+    let if1 = c .before .before .before .if1 in
+    let looked = c .before .all-new in
+    asked-few (now (args .body)) _ _ (kept at-entry) (if1 .taken) (sym (looked .ensures) ∙ c .if2 .left)
 
--- src/lib.rt:155:8
 ids-new-requires : tie.Need-ids-new-requires
-ids-new-requires c κs = all-there (now (c .before .before .before .before .before .before .before .args .body)) _ _ (kept (c .before))
+ids-new-requires c κs =
+    let args = c .before .before .before .before .before .before .before .args in
+    let at-entry = c .before in
+    all-there (now (args .body)) _ _ (kept at-entry)
 
--- src/lib.rt:156:9
 returns-4 : tie.Need-returns-4
-returns-4 c = asked-many (now (c .before .before .before .before .before .before .before .before .before .args .body)) _ _ (kept (c .before .before .before)) ((c .before .before .if1 .left)) (sym ((c .before .ids-new .ensures)) ∙ (c .if3 .taken))
+returns-4 c =
+    let args = c .before .before .before .before .before .before .before .before .before .args in
+    let at-entry = c .before .before .before in
+    let if1 = c .before .before .if1 in
+    let looked = c .before .ids-new in
+    asked-many (now (args .body)) _ _ (kept at-entry) (if1 .left) (sym (looked .ensures) ∙ c .if3 .taken)
 
--- src/lib.rt:142:1
 returns-5 : tie.Need-returns-5
-returns-5 c = asked-twice (now (c .before .before .before .before .before .before .before .before .before .args .body)) _ _ (kept (c .before .before .before)) (sym ((c .before .ids-new .ensures)) ∙ (c .if3 .left))
+returns-5 c =
+    let args = c .before .before .before .before .before .before .before .before .before .args in
+    let at-entry = c .before .before .before in
+    let looked = c .before .ids-new in
+    asked-twice (now (args .body)) _ _ (kept at-entry) (sym (looked .ensures) ∙ c .if3 .left)
 
 pub ask-parameters-spec : {M : Type 1} → statement M
 ask-parameters-spec =

@@ -1,3 +1,4 @@
+-- The loop keeps: the id is among those of the body exactly where it is among those from the place on. Assumes nothing.
 use mathlib.Core.Path.{_≡_, refl, sym, _∙_}
 use Prim.Native.Nat.{_+_, _-_, _≤_, zero-le}
 use mathlib.Core.List.{_∷_}
@@ -16,89 +17,122 @@ use borrow.Author.Needs.{needs}
 use native.Mathlib.Omega.{arith}
 use Rattle.fingerprint_parameters.proofs.has_id.Statement.{statement}
 use Rattle.fingerprint_parameters.proofs.has_id.Tie as tie
-use Rattle.fingerprint_parameters.proofs.has_id.Reads as reads
-use Rattle.fingerprint_parameters.proofs.has_id.Lts as lts
-use Rattle.fingerprint_parameters.proofs.one_parameter.Reads as one-parameter-reads
 
 abbrev Inv-loop : tie.InvT-loop
-Inv-loop list id n at₀ at =
-    (at ≤ length list) × There (transportParameters (drop at list)) × (member id (idsIn list) ≡ member id (idsIn (drop at list)))
+Inv-loop list id n at₀ at = (at ≤ length list) × There (transportParameters (drop at list)) × (member id (idsIn list) ≡ member id (idsIn (drop at list)))
 
 abbrev μ-loop : tie.MeasureT-loop
-μ-loop list id n at₀ at =
-    length list - at
+μ-loop list id n at₀ at = length list - at
 
-bytes : (c : tie.After-shared-slice-known Inv-loop μ-loop) → Bytes (now (c .before .args .list))
-bytes c = λ k. ((c .shared-slice-known .given) k) .fits
+bytes : (c : tie.After-shared-slice-known Inv-loop μ-loop) →
+    let args = c .before .args in
+    Bytes (now (args .list))
+bytes c = λ k. c .shared-slice-known .given k .fits
 
-inner : (c : tie.After-one-parameter Inv-loop μ-loop) → ParameterAs ((c .one-parameter .result)) (drop ((c .before .before .before .loop .at)) (now (c .before .before .before .before .before .args .list)))
-inner c = rw (part-to-end (now (c .before .before .before .before .before .args .list)) ((c .before .before .before .loop .at))) at ((c .one-parameter .ensures))
+inner : (c : tie.After-one-parameter Inv-loop μ-loop) →
+    let args = c .before .before .before .before .before .args in
+    let loop = c .before .before .before .loop in
+    ParameterAs (c .one-parameter .result) (drop (loop .at) (now (args .list)))
+inner c =
+    let args = c .before .before .before .before .before .args in
+    let loop = c .before .before .before .loop in
+    rw (part-to-end (now (args .list)) (loop .at)) at (c .one-parameter .ensures)
 
-found : (c : tie.After-known-told Inv-loop μ-loop) → ParameterFound (drop ((c .before .before .before .before .before .before .loop .at)) (now (c .before .before .before .before .before .before .before .before .args .list))) ((c .before .i .given .0 .0)) ((c .before .i .given .0 .1 .0))
-found c = rw ((c .before .i .given .1)) at (inner (c .before .before .before))
+found : (c : tie.After-known-told Inv-loop μ-loop) →
+    let args = c .before .before .before .before .before .before .before .before .args in
+    let loop = c .before .before .before .before .before .before .loop in
+    let i = c .before .i in
+    ParameterFound (drop (loop .at) (now (args .list))) (i .given .0 .0) (i .given .0 .1 .0)
+found c =
+    let at-call = c .before .before .before in
+    let i = c .before .i in
+    rw (i .given .1) at (inner at-call)
 
-rest : (c : tie.After-known-told Inv-loop μ-loop) → idsIn (drop ((c .before .before .before .before .before .before .loop .at)) (now (c .before .before .before .before .before .before .before .before .args .list))) ≡ (c .before .i .given .0 .0) ∷ idsIn (drop ((c .before .before .before .before .before .before .loop .at) + (c .before .i .given .0 .1 .0)) (now (c .before .before .before .before .before .before .before .before .args .list)))
-rest c = next-ids (now (c .before .before .before .before .before .before .before .before .args .list)) ((c .before .before .before .before .before .before .loop .at)) ((c .before .before .before .before .before .loop-test .taken)) (bytes (c .before .before .before .before .before .before .before)) _ _ (found c) ((c .before .before .before .before .before .before .loop .inv .1))
+rest : (c : tie.After-known-told Inv-loop μ-loop) →
+    let args = c .before .before .before .before .before .before .before .before .args in
+    let loop = c .before .before .before .before .before .before .loop in
+    let i = c .before .i in
+    idsIn (drop (loop .at) (now (args .list))) ≡ i .given .0 .0 ∷ idsIn (drop (loop .at + i .given .0 .1 .0) (now (args .list)))
+rest c =
+    let args = c .before .before .before .before .before .before .before .before .args in
+    let start = c .before .before .before .before .before .before .before in
+    let loop = c .before .before .before .before .before .before .loop in
+    let test = c .before .before .before .before .before .loop-test in
+    next-ids (now (args .list)) (loop .at) (test .taken) (bytes start) _ _ (found c) (loop .inv .1)
 
--- src/lib.rt:110:5
 loop-holds : tie.Need-loop-holds Inv-loop μ-loop
-loop-holds c = (zero-le, (c .before .pre), refl)
+loop-holds c =
+    let pre = c .before .pre in
+    (zero-le, pre, refl)
 
--- src/lib.rt:111:55
 sub-one-parameter : tie.Need-sub-one-parameter Inv-loop μ-loop
 sub-one-parameter c = search needs
 
--- src/lib.rt:111:55
 part-one-parameter-start : tie.Need-part-one-parameter-start Inv-loop μ-loop
 part-one-parameter-start c = search needs
 
--- src/lib.rt:111:55
 part-one-parameter-end : tie.Need-part-one-parameter-end Inv-loop μ-loop
 part-one-parameter-end c = search needs
 
--- src/lib.rt:111:41
 one-parameter-requires : tie.Need-one-parameter-requires Inv-loop μ-loop
 one-parameter-requires c κs = search needs
 
--- src/lib.rt:111:30
 enum-known-i : tie.Need-enum-known-i Inv-loop μ-loop
 enum-known-i c = search needs
 
--- src/lib.rt:112:13
 enum-told : tie.Need-enum-told Inv-loop μ-loop
 enum-told c = search needs
 
--- src/lib.rt:112:13
 returns : tie.Need-returns Inv-loop μ-loop
-returns c = absurd (cut-there (now (c .before .before .before .before .before .before .before .args .list)) ((c .before .before .before .before .before .loop .at)) ((c .before .before .before .before .loop-test .taken)) (rw ((c .enum-told .given .1)) at (inner (c .before .before))) ((c .before .before .before .before .before .loop .inv .1)))
+returns c =
+    let args = c .before .before .before .before .before .before .before .args in
+    let loop = c .before .before .before .before .before .loop in
+    let test = c .before .before .before .before .loop-test in
+    let at-call = c .before .before in
+    absurd (cut-there (now (args .list)) (loop .at) (test .taken) (rw (c .enum-told .given .1) at (inner at-call)) (loop .inv .1))
 
--- src/lib.rt:115:13
 returns-2 : tie.Need-returns-2 Inv-loop μ-loop
-returns-2 c = sym ((c .before .before .before .before .before .before .before .loop .inv .2) ∙ rw (rest (c .before)) (member-first ((c .before .before .before .before .before .before .before .before .before .args .id)) _ _ ((c .if1 .taken))))
+returns-2 c =
+    let args = c .before .before .before .before .before .before .before .before .before .args in
+    let loop = c .before .before .before .before .before .before .before .loop in
+    let at-entry = c .before in
+    sym (loop .inv .2 ∙ rw (rest at-entry) (member-first (args .id) _ _ (c .if1 .taken)))
 
--- src/lib.rt:117:14
 add-at : tie.Need-add-at Inv-loop μ-loop
-add-at c = omega (arith, next-within (now (c .before .before .before .before .before .before .before .before .before .args .list)) ((c .before .before .before .before .before .before .before .loop .at)) ((c .before .before .before .before .before .before .loop-test .taken)) (bytes (c .before .before .before .before .before .before .before .before)) _ _ (found (c .before)))
+add-at c =
+    let args = c .before .before .before .before .before .before .before .before .before .args in
+    let start = c .before .before .before .before .before .before .before .before in
+    let loop = c .before .before .before .before .before .before .before .loop in
+    let test = c .before .before .before .before .before .before .loop-test in
+    let at-entry = c .before in
+    omega (arith, next-within (now (args .list)) (loop .at) (test .taken) (bytes start) _ _ (found at-entry))
 
--- src/lib.rt:110:5
 loop-less : tie.Need-loop-less Inv-loop μ-loop
-loop-less c = omega (arith, (c .before .before .before .before .before .before .loop-test .taken), (found (c .before)) .some)
+loop-less c =
+    let test = c .before .before .before .before .before .before .loop-test in
+    let at-entry = c .before in
+    omega (arith, test .taken, (found at-entry) .some)
 
--- src/lib.rt:110:5
 loop-again : tie.Need-loop-again Inv-loop μ-loop
 loop-again c =
-    let l = (c .before .before .before .before .before .before .before .loop) in
-    let s = now (c .before .before .before .before .before .before .before .before .before .args .list) in
-    let f = found (c .before) in
-    let b = bytes (c .before .before .before .before .before .before .before .before) in (
-      next-within s (l .at) ((c .before .before .before .before .before .before .loop-test .taken)) b _ _ f,
-      next-there s (l .at) ((c .before .before .before .before .before .before .loop-test .taken)) b _ _ f (l .inv .1),
-      l .inv .2 ∙ rw (rest (c .before)) (member-later ((c .before .before .before .before .before .before .before .before .before .args .id)) _ _ ((c .if1 .left))),
+    let args = c .before .before .before .before .before .before .before .before .before .args in
+    let start = c .before .before .before .before .before .before .before .before in
+    let loop = c .before .before .before .before .before .before .before .loop in
+    let test = c .before .before .before .before .before .before .loop-test in
+    let at-entry = c .before in
+    let s = now (args .list) in
+    let f = found at-entry in
+    let b = bytes start in (
+      next-within s (loop .at) (test .taken) b _ _ f,
+      next-there s (loop .at) (test .taken) b _ _ f (loop .inv .1),
+      loop .inv .2 ∙ rw (rest at-entry) (member-later (args .id) _ _ (c .if1 .left)),
     )
 
--- src/lib.rt:104:1
 returns-3 : tie.Need-returns-3 Inv-loop μ-loop
-returns-3 c = sym ((c .before .loop .inv .2) ∙ rw (ids-end (now (c .before .before .before .args .list)) ((c .before .loop .at)) ((c .loop-test .left))) (member-nil ((c .before .before .before .args .id))))
+returns-3 c =
+    let args = c .before .before .before .args in
+    let loop = c .before .loop in
+    sym (loop .inv .2 ∙ rw (ids-end (now (args .list)) (loop .at) (c .loop-test .left)) (member-nil (args .id)))
 
 pub has-id-spec : {M : Type 1} → statement M
 has-id-spec =

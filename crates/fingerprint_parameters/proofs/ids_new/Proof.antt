@@ -1,6 +1,7 @@
-use mathlib.Core.Path.{_≡_, refl, sym, ap, _∙_}
+-- The loop keeps: the ids are distinct exactly where those from the place on are. Assumes nothing.
+use mathlib.Core.Path.{_≡_, refl, sym, _∙_}
 use Prim.Native.Nat.{_+_, _-_, _≤_, zero-le}
-use mathlib.Core.List.{List, _∷_}
+use mathlib.Core.List.{_∷_}
 use denote.Ref.{now}
 use lib.ListN.{length, drop}
 use Rattle.wire.specs.Numbers.{Bytes}
@@ -15,111 +16,163 @@ use borrow.Author.Needs.{needs}
 use native.Mathlib.Omega.{arith}
 use Rattle.fingerprint_parameters.proofs.ids_new.Statement.{statement}
 use Rattle.fingerprint_parameters.proofs.ids_new.Tie as tie
-use Rattle.fingerprint_parameters.proofs.ids_new.Reads as reads
-use Rattle.fingerprint_parameters.proofs.ids_new.Lts as lts
-use Rattle.fingerprint_parameters.proofs.has_id.Reads as has-id-reads
-use Rattle.fingerprint_parameters.proofs.one_parameter.Reads as one-parameter-reads
 
 abbrev Inv-loop : tie.InvT-loop
-Inv-loop body n at₀ at =
-    (at ≤ length body) × There (transportParameters (drop at body)) × (distinct (idsIn body) ≡ distinct (idsIn (drop at body)))
+Inv-loop body n at₀ at = (at ≤ length body) × There (transportParameters (drop at body)) × (distinct (idsIn body) ≡ distinct (idsIn (drop at body)))
 
 abbrev μ-loop : tie.MeasureT-loop
-μ-loop body n at₀ at =
-    length body - at
+μ-loop body n at₀ at = length body - at
 
-bytes : (c : tie.After-shared-slice-known Inv-loop μ-loop) → Bytes (now (c .before .args .body))
-bytes c = λ k. ((c .shared-slice-known .given) k) .fits
+bytes : (c : tie.After-shared-slice-known Inv-loop μ-loop) →
+    let args = c .before .args in
+    Bytes (now (args .body))
+bytes c = λ k. c .shared-slice-known .given k .fits
 
-inner : (c : tie.After-one-parameter Inv-loop μ-loop) → ParameterAs ((c .one-parameter .result)) (drop ((c .before .before .before .loop .at)) (now (c .before .before .before .before .before .args .body)))
-inner c = rw (part-to-end (now (c .before .before .before .before .before .args .body)) ((c .before .before .before .loop .at))) at ((c .one-parameter .ensures))
+inner : (c : tie.After-one-parameter Inv-loop μ-loop) →
+    let args = c .before .before .before .before .before .args in
+    let loop = c .before .before .before .loop in
+    ParameterAs (c .one-parameter .result) (drop (loop .at) (now (args .body)))
+inner c =
+    let args = c .before .before .before .before .before .args in
+    let loop = c .before .before .before .loop in
+    rw (part-to-end (now (args .body)) (loop .at)) at (c .one-parameter .ensures)
 
-found : (c : tie.After-known-told Inv-loop μ-loop) → ParameterFound (drop ((c .before .before .before .before .before .before .loop .at)) (now (c .before .before .before .before .before .before .before .before .args .body))) ((c .before .id .given .0 .0)) ((c .before .id .given .0 .1 .0))
-found c = rw ((c .before .id .given .1)) at (inner (c .before .before .before))
+found : (c : tie.After-known-told Inv-loop μ-loop) →
+    let args = c .before .before .before .before .before .before .before .before .args in
+    let loop = c .before .before .before .before .before .before .loop in
+    let id = c .before .id in
+    ParameterFound (drop (loop .at) (now (args .body))) (id .given .0 .0) (id .given .0 .1 .0)
+found c =
+    let at-call = c .before .before .before in
+    let id = c .before .id in
+    rw (id .given .1) at (inner at-call)
 
-within : (c : tie.After-known-told Inv-loop μ-loop) → (c .before .before .before .before .before .before .loop .at) + (c .before .id .given .0 .1 .0) ≤ length (now (c .before .before .before .before .before .before .before .before .args .body))
-within c = next-within (now (c .before .before .before .before .before .before .before .before .args .body)) ((c .before .before .before .before .before .before .loop .at)) ((c .before .before .before .before .before .loop-test .taken)) (bytes (c .before .before .before .before .before .before .before)) _ _ (found c)
+within : (c : tie.After-known-told Inv-loop μ-loop) →
+    let args = c .before .before .before .before .before .before .before .before .args in
+    let loop = c .before .before .before .before .before .before .loop in
+    let id = c .before .id in
+    loop .at + id .given .0 .1 .0 ≤ length (now (args .body))
+within c =
+    let args = c .before .before .before .before .before .before .before .before .args in
+    let start = c .before .before .before .before .before .before .before in
+    let loop = c .before .before .before .before .before .before .loop in
+    let test = c .before .before .before .before .before .loop-test in
+    next-within (now (args .body)) (loop .at) (test .taken) (bytes start) _ _ (found c)
 
-there : (c : tie.After-known-told Inv-loop μ-loop) → There (transportParameters (drop ((c .before .before .before .before .before .before .loop .at) + (c .before .id .given .0 .1 .0)) (now (c .before .before .before .before .before .before .before .before .args .body))))
-there c = next-there (now (c .before .before .before .before .before .before .before .before .args .body)) ((c .before .before .before .before .before .before .loop .at)) ((c .before .before .before .before .before .loop-test .taken)) (bytes (c .before .before .before .before .before .before .before)) _ _ (found c) ((c .before .before .before .before .before .before .loop .inv .1))
+there : (c : tie.After-known-told Inv-loop μ-loop) →
+    let args = c .before .before .before .before .before .before .before .before .args in
+    let loop = c .before .before .before .before .before .before .loop in
+    let id = c .before .id in
+    There (transportParameters (drop (loop .at + id .given .0 .1 .0) (now (args .body))))
+there c =
+    let args = c .before .before .before .before .before .before .before .before .args in
+    let start = c .before .before .before .before .before .before .before in
+    let loop = c .before .before .before .before .before .before .loop in
+    let test = c .before .before .before .before .before .loop-test in
+    next-there (now (args .body)) (loop .at) (test .taken) (bytes start) _ _ (found c) (loop .inv .1)
 
-rest : (c : tie.After-known-told Inv-loop μ-loop) → idsIn (drop ((c .before .before .before .before .before .before .loop .at)) (now (c .before .before .before .before .before .before .before .before .args .body))) ≡ (c .before .id .given .0 .0) ∷ idsIn (drop ((c .before .before .before .before .before .before .loop .at) + (c .before .id .given .0 .1 .0)) (now (c .before .before .before .before .before .before .before .before .args .body)))
-rest c = next-ids (now (c .before .before .before .before .before .before .before .before .args .body)) ((c .before .before .before .before .before .before .loop .at)) ((c .before .before .before .before .before .loop-test .taken)) (bytes (c .before .before .before .before .before .before .before)) _ _ (found c) ((c .before .before .before .before .before .before .loop .inv .1))
+rest : (c : tie.After-known-told Inv-loop μ-loop) →
+    let args = c .before .before .before .before .before .before .before .before .args in
+    let loop = c .before .before .before .before .before .before .loop in
+    let id = c .before .id in
+    idsIn (drop (loop .at) (now (args .body))) ≡ id .given .0 .0 ∷ idsIn (drop (loop .at + id .given .0 .1 .0) (now (args .body)))
+rest c =
+    let args = c .before .before .before .before .before .before .before .before .args in
+    let start = c .before .before .before .before .before .before .before in
+    let loop = c .before .before .before .before .before .before .loop in
+    let test = c .before .before .before .before .before .loop-test in
+    next-ids (now (args .body)) (loop .at) (test .taken) (bytes start) _ _ (found c) (loop .inv .1)
 
-looked : (c : tie.After-has-id Inv-loop μ-loop) → (c .has-id .result) ≡ member ((c .before .before .before .id .given .0 .0)) (idsIn (drop ((c .before .before .before .before .before .before .before .before .loop .at) + (c .before .before .before .id .given .0 .1 .0)) (now (c .before .before .before .before .before .before .before .before .before .before .args .body))))
-looked c = rw (part-to-end (now (c .before .before .before .before .before .before .before .before .before .before .args .body)) ((c .before .before .before .before .before .before .before .before .loop .at) + (c .before .before .before .id .given .0 .1 .0))) at ((c .has-id .ensures))
+looked : (c : tie.After-has-id Inv-loop μ-loop) →
+    let args = c .before .before .before .before .before .before .before .before .before .before .args in
+    let loop = c .before .before .before .before .before .before .before .before .loop in
+    let id = c .before .before .before .id in
+    c .has-id .result ≡ member (id .given .0 .0) (idsIn (drop (loop .at + id .given .0 .1 .0) (now (args .body))))
+looked c =
+    let args = c .before .before .before .before .before .before .before .before .before .before .args in
+    let loop = c .before .before .before .before .before .before .before .before .loop in
+    let id = c .before .before .before .id in
+    rw (part-to-end (now (args .body)) (loop .at + id .given .0 .1 .0)) at (c .has-id .ensures)
 
--- src/lib.rt:129:5
 loop-holds : tie.Need-loop-holds Inv-loop μ-loop
-loop-holds c = (zero-le, (c .before .pre), refl)
+loop-holds c =
+    let pre = c .before .pre in
+    (zero-le, pre, refl)
 
--- src/lib.rt:130:56
 sub-one-parameter : tie.Need-sub-one-parameter Inv-loop μ-loop
 sub-one-parameter c = search needs
 
--- src/lib.rt:130:56
 part-one-parameter-start : tie.Need-part-one-parameter-start Inv-loop μ-loop
 part-one-parameter-start c = search needs
 
--- src/lib.rt:130:56
 part-one-parameter-end : tie.Need-part-one-parameter-end Inv-loop μ-loop
 part-one-parameter-end c = search needs
 
--- src/lib.rt:130:42
 one-parameter-requires : tie.Need-one-parameter-requires Inv-loop μ-loop
 one-parameter-requires c κs = search needs
 
--- src/lib.rt:130:30
 enum-known-id : tie.Need-enum-known-id Inv-loop μ-loop
 enum-known-id c = search needs
 
--- src/lib.rt:131:13
 enum-told : tie.Need-enum-told Inv-loop μ-loop
 enum-told c = search needs
 
--- src/lib.rt:131:13
 returns : tie.Need-returns Inv-loop μ-loop
-returns c = absurd (cut-there (now (c .before .before .before .before .before .before .before .args .body)) ((c .before .before .before .before .before .loop .at)) ((c .before .before .before .before .loop-test .taken)) (rw ((c .enum-told .given .1)) at (inner (c .before .before))) ((c .before .before .before .before .before .loop .inv .1)))
+returns c =
+    let args = c .before .before .before .before .before .before .before .args in
+    let loop = c .before .before .before .before .before .loop in
+    let test = c .before .before .before .before .loop-test in
+    let at-call = c .before .before in
+    absurd (cut-there (now (args .body)) (loop .at) (test .taken) (rw (c .enum-told .given .1) at (inner at-call)) (loop .inv .1))
 
--- src/lib.rt:133:14
 add-at : tie.Need-add-at Inv-loop μ-loop
-add-at c = omega (arith, within (c))
+add-at c = omega (arith, within c)
 
--- src/lib.rt:134:19
 sub-has-id : tie.Need-sub-has-id Inv-loop μ-loop
-sub-has-id c = within (c)
+sub-has-id c = within c
 
--- src/lib.rt:134:19
 part-has-id-start : tie.Need-part-has-id-start Inv-loop μ-loop
-part-has-id-start c = omega (arith, within (c))
+part-has-id-start c = omega (arith, within c)
 
--- src/lib.rt:134:19
 part-has-id-end : tie.Need-part-has-id-end Inv-loop μ-loop
 part-has-id-end c = search needs
 
--- src/lib.rt:134:12
 has-id-requires : tie.Need-has-id-requires Inv-loop μ-loop
-has-id-requires c κs = rw (part-to-end (now (c .before .before .before .before .before .before .before .before .before .args .body)) ((c .before .before .before .before .before .before .before .loop .at) + (c .before .before .id .given .0 .1 .0))) (there (c .before))
+has-id-requires c κs =
+    let args = c .before .before .before .before .before .before .before .before .before .args in
+    let loop = c .before .before .before .before .before .before .before .loop in
+    let id = c .before .before .id in
+    let at-entry = c .before in
+    rw (part-to-end (now (args .body)) (loop .at + id .given .0 .1 .0)) (there at-entry)
 
--- src/lib.rt:135:13
 returns-2 : tie.Need-returns-2 Inv-loop μ-loop
-returns-2 c = sym ((c .before .before .before .before .before .before .before .before .before .loop .inv .2) ∙ rw (rest (c .before .before .before)) (distinct-not _ _ (sym (looked (c .before)) ∙ (c .if1 .taken))))
+returns-2 c =
+    let loop = c .before .before .before .before .before .before .before .before .before .loop in
+    let at-entry = c .before .before .before in
+    let at-look = c .before in
+    sym (loop .inv .2 ∙ rw (rest at-entry) (distinct-not _ _ (sym (looked at-look) ∙ c .if1 .taken)))
 
--- src/lib.rt:129:5
 loop-less : tie.Need-loop-less Inv-loop μ-loop
-loop-less c = omega (arith, (c .before .before .before .before .before .before .before .before .loop-test .taken), (found (c .before .before .before)) .some)
+loop-less c =
+    let test = c .before .before .before .before .before .before .before .before .loop-test in
+    let at-entry = c .before .before .before in
+    omega (arith, test .taken, (found at-entry) .some)
 
--- src/lib.rt:129:5
 loop-again : tie.Need-loop-again Inv-loop μ-loop
-loop-again c = (
-  within (c .before .before .before),
-  there (c .before .before .before),
-  (c .before .before .before .before .before .before .before .before .before .loop .inv .2) ∙ rw (rest (c .before .before .before)) (distinct-later _ _ (sym (looked (c .before)) ∙ (c .if1 .left))),
-)
+loop-again c =
+    let loop = c .before .before .before .before .before .before .before .before .before .loop in
+    let at-entry = c .before .before .before in
+    let at-look = c .before in (
+      within at-entry,
+      there at-entry,
+      loop .inv .2 ∙ rw (rest at-entry) (distinct-later _ _ (sym (looked at-look) ∙ c .if1 .left)),
+    )
 
--- src/lib.rt:123:1
 returns-3 : tie.Need-returns-3 Inv-loop μ-loop
-returns-3 c = sym ((c .before .loop .inv .2) ∙ rw (ids-end (now (c .before .before .before .args .body)) ((c .before .loop .at)) ((c .loop-test .left))) distinct-nil)
+returns-3 c =
+    let args = c .before .before .before .args in
+    let loop = c .before .loop in
+    sym (loop .inv .2 ∙ rw (ids-end (now (args .body)) (loop .at) (c .loop-test .left)) distinct-nil)
 
 pub ids-new-spec : {M : Type 1} → statement M
 ids-new-spec =
