@@ -12,7 +12,7 @@ use Rattle.fingerprint.specs.ClientHello.{ClientHello}
 use Rattle.fingerprint.specs.Reader.{read}
 use Rattle.fingerprint.specs.Report.{report, shown, Lies, parsedOf}
 use Rattle.fingerprint.specs.Calls.{rising, extensionSet}
-use Rattle.fingerprint.specs.declared.Parsed.{Parsed}
+use Rattle.fingerprint.specs.declared.Fingerprint.{Fingerprint}
 use Rattle.fingerprint.proofs.WellFormed.{encoded-read}
 use Rattle.fingerprint.proofs.Accepted.{Numbered, read-numbered}
 use Rattle.fingerprint.proofs.Ranges.{names-lie}
@@ -23,16 +23,16 @@ use Rattle.reports.specs.Code.{SniLies, InRange}
 
 -- ---- accepted or refused, by the number
 
-module _ (p : Parsed) where
+module _ (p : Fingerprint) where
   refused-by : (a : Answer ClientHello) → p ≡ parsedOf a → (p .number ≡ 0 → ⊥) → a ≡ refused (p .number)
-  unfolding parsedOf
-  refused-by (result v) e n = absurd (n (ap (λ (q : Parsed). q .number) e))
-  refused-by (refused k) e n = rw (ap (λ (q : Parsed). q .number) e)
+  unfolding parsedOf shown
+  refused-by (result v) e n = absurd (n (ap (λ (q : Fingerprint). q .number) e))
+  refused-by (refused k) e n = rw (ap (λ (q : Fingerprint). q .number) e)
 
   accepted-by : (a : Answer ClientHello) → Numbered a → p ≡ parsedOf a → p .number ≡ 0 → (v : ClientHello) × (a ≡ result v)
-  unfolding parsedOf
+  unfolding parsedOf shown
   accepted-by (result v) f e n = (v, refl)
-  accepted-by (refused k) f e n = absurd (omega (arith, f .0, ap (λ (q : Parsed). q .number) e, n))
+  accepted-by (refused k) f e n = absurd (omega (arith, f .0, ap (λ (q : Fingerprint). q .number) e, n))
 
 -- ---- an accepted hello can be written
 
@@ -59,13 +59,13 @@ module _ (h : List ℕ) (b : Bytes h) (v : ClientHello) (e : read h ≡ result v
       }
 
 -- what a number of 0 says of the bytes
-pub record Reported (h : List ℕ) (p : Parsed) : Type 0 where
+pub record Reported (h : List ℕ) (p : Fingerprint) : Type 0 where
   pub value : ClientHello
   pub accepted : read h ≡ result value
-  pub shows : p .report ≡ shown (report value)
+  pub shows : p ≡ shown 0 (report value)
   pub writable : InRange h (report value)
 
-module _ (h : List ℕ) (b : Bytes h) (p : Parsed) (e : p ≡ parsedOf (read h)) where
+module _ (h : List ℕ) (b : Bytes h) (p : Fingerprint) (e : p ≡ parsedOf (read h)) where
   pub reported : p .number ≡ 0 → Reported h p
   unfolding parsedOf
   reported n =
@@ -73,7 +73,7 @@ module _ (h : List ℕ) (b : Bytes h) (p : Parsed) (e : p ≡ parsedOf (read h))
       record {
         value = a .0;
         accepted = a .1;
-        shows = ap (λ (q : Parsed). q .report) (rw (a .1) at e);
+        shows = rw (a .1) at e;
         writable = in-range h b (a .0) (a .1);
       }
 

@@ -185,12 +185,12 @@ pub fn say_split(place: u64, blob: &[u8], last: &mut [u8], out: &mut [u8]) -> Sa
 pub fn say_report(hello: &[u8], out: &mut [u8]) -> Said
     ensures { λ r. ⌜ Says (plainly (read (now (hello .entry)))) (reportAnswer (read (now (hello .entry)))) r (now (out .entry)) (now (out .exit)) ⌝ }
 {
-    let parsed = parse_clienthello(hello);
-    let number = parsed.number;
+    let report = parse_clienthello(hello);
+    let number = report.number;
     if number != 0 {
         return Said::Refused(put_number(out, b"refused ", number), number);
     }
-    Said::Answer(put_report(out, hello, parsed.report))
+    Said::Answer(put_report(out, hello, report))
 }
 
 // name HELLO DEFAULT

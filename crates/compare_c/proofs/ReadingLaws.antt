@@ -9,7 +9,7 @@ use Rattle.wire.specs.Answer.{Answer, result, refused}
 use Rattle.fingerprint_lists.specs.Arrays.{extType, group, span}
 use Rattle.fingerprint.specs.ClientHello.{ClientHello}
 use Rattle.fingerprint.specs.Report.{numberOf}
-use Rattle.fingerprint.specs.declared.Parsed.{Parsed}
+use Rattle.fingerprint.specs.declared.Fingerprint.{Fingerprint}
 use Rattle.fingerprint.proofs.Accepted.{Numbered}
 use Rattle.answers.specs.Said.{plain, plainly, saidCount, Says}
 use Rattle.answers.specs.Answers.{reportAnswer}
@@ -65,21 +65,21 @@ module _ (r : Said) (old new : List ℕ) where
 
 -- ---- `compare_picked`
 
-module _ (p : Parsed) (k : ℕ) where
+module _ (p : Fingerprint) (k : ℕ) where
   pub no-place : 16 ≤ k → 0 ≡ pickedOf p k
   unfolding pickedOf
   no-place h = rw (le-leb 16 k h)
 
   -- one sum after the other
   pub all-picked : (s1 s2 s3 s4 s5 s6 s7 s8 : ℕ) → k < 16
-      → s1 ≡ added (p .number) (getD (p .report .«cipher_suites») k 0)
-      → s2 ≡ added s1 ((getD (p .report .extensions) k (extType 0)) .0)
-      → s3 ≡ added s2 ((getD (p .report .«supported_groups») k (group 0)) .0)
-      → s4 ≡ added s3 ((getD (p .report .«key_share_groups») k (group 0)) .0)
-      → s5 ≡ added s4 (getD (p .report .«signature_algorithms») k 0)
-      → s6 ≡ added s5 (getD (p .report .«supported_versions») k 0)
-      → s7 ≡ added s6 ((getD (p .report .alpn) k (span 0 0)) .start)
-      → s8 ≡ added s7 (getD (p .report .«transport_param_ids») k 0)
+      → s1 ≡ added (p .number) (getD (p .«cipher_suites») k 0)
+      → s2 ≡ added s1 ((getD (p .extensions) k (extType 0)) .0)
+      → s3 ≡ added s2 ((getD (p .«supported_groups») k (group 0)) .0)
+      → s4 ≡ added s3 ((getD (p .«key_share_groups») k (group 0)) .0)
+      → s5 ≡ added s4 (getD (p .«signature_algorithms») k 0)
+      → s6 ≡ added s5 (getD (p .«supported_versions») k 0)
+      → s7 ≡ added s6 ((getD (p .alpn) k (span 0 0)) .start)
+      → s8 ≡ added s7 (getD (p .«transport_param_ids») k 0)
       → s8 ≡ pickedOf p k
   unfolding pickedOf
   all-picked s1 s2 s3 s4 s5 s6 s7 s8 h e1 e2 e3 e4 e5 e6 e7 e8 = rw (lt-leb 16 k h, e8, e7, e6, e5, e4, e3, e2, e1)

@@ -10,7 +10,7 @@ use Rattle.wire.specs.Front.{front}
 use Rattle.script.specs.Answers.{fittedAll}
 use Rattle.fingerprint_lists.specs.Arrays.{extType, group, span}
 use Rattle.fingerprint.specs.ClientHello.{ClientHello}
-use Rattle.fingerprint.specs.declared.Parsed.{Parsed}
+use Rattle.fingerprint.specs.declared.Fingerprint.{Fingerprint}
 use Rattle.answers.specs.Answers.{reportAnswer}
 
 -- 0, or 2^32 plus the number
@@ -36,15 +36,15 @@ abbrev pub added : ℕ → ℕ → ℕ
 added a b = (a + b) % 2 ^ 64
 
 -- one place below 16 of each list, and the number; 0 for other places
-unfoldable pub pickedOf : Parsed → ℕ → ℕ
+unfoldable pub pickedOf : Fingerprint → ℕ → ℕ
 pickedOf p k =
     cond (leb 16 k) 0
     (added (added (added (added (added (added (added (added (p .number)
-    (getD (p .report .«cipher_suites») k 0))
-    ((getD (p .report .extensions) k (extType 0)) .0))
-    ((getD (p .report .«supported_groups») k (group 0)) .0))
-    ((getD (p .report .«key_share_groups») k (group 0)) .0))
-    (getD (p .report .«signature_algorithms») k 0))
-    (getD (p .report .«supported_versions») k 0))
-    ((getD (p .report .alpn) k (span 0 0)) .start))
-    (getD (p .report .«transport_param_ids») k 0))
+    (getD (p .«cipher_suites») k 0))
+    ((getD (p .extensions) k (extType 0)) .0))
+    ((getD (p .«supported_groups») k (group 0)) .0))
+    ((getD (p .«key_share_groups») k (group 0)) .0))
+    (getD (p .«signature_algorithms») k 0))
+    (getD (p .«supported_versions») k 0))
+    ((getD (p .alpn) k (span 0 0)) .start))
+    (getD (p .«transport_param_ids») k 0))

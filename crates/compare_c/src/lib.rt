@@ -213,19 +213,18 @@ pub extern "C" fn compare_picked(hello: &[u8], place: usize) -> u64
     if 16 <= place {
         return 0;
     }
-    let parsed = fingerprint::reading::parse_clienthello(hello);
-    let r = parsed.report;
-    let extension = r.extensions[place];
-    let group = r.supported_groups[place];
-    let share = r.key_share_groups[place];
-    let name = r.alpn[place];
-    let mut sum = parsed.number;
-    sum = add_word(sum, r.cipher_suites[place]);
+    let report = fingerprint::reading::parse_clienthello(hello);
+    let extension = report.extensions[place];
+    let group = report.supported_groups[place];
+    let share = report.key_share_groups[place];
+    let name = report.alpn[place];
+    let mut sum = report.number;
+    sum = add_word(sum, report.cipher_suites[place]);
     sum = add_word(sum, extension.0);
     sum = add_word(sum, group.0);
     sum = add_word(sum, share.0);
-    sum = add_word(sum, r.signature_algorithms[place]);
-    sum = add_word(sum, r.supported_versions[place]);
+    sum = add_word(sum, report.signature_algorithms[place]);
+    sum = add_word(sum, report.supported_versions[place]);
     sum = std::num::wrapping_add_u64(sum, name.start as u64);
-    std::num::wrapping_add_u64(sum, r.transport_param_ids[place])
+    std::num::wrapping_add_u64(sum, report.transport_param_ids[place])
 }

@@ -80,22 +80,22 @@ read-numbered h =
 
 pub record Reported (h : List ℕ) : Type 0 where
   -- a well-formed hello: 0, and its report
-  pub accepted : (v : ClientHello) → Encodes v h → parsedOf (read h) ≡ record { number = 0; report = shown (report v) }
+  pub accepted : (v : ClientHello) → Encodes v h → parsedOf (read h) ≡ shown 0 (report v)
   -- 0 is said of well-formed hellos only
   pub only : (parsedOf (read h)) .number ≡ 0 → (v : ClientHello) × Encodes v h
   -- all else is refused
-  pub refusal : ((v : ClientHello) → Encodes v h → ⊥) → FromReader ((parsedOf (read h)) .number) × ((parsedOf (read h)) .report ≡ shown emptyReport)
+  pub refusal : ((v : ClientHello) → Encodes v h → ⊥) → (n : ℕ) × FromReader n × (parsedOf (read h) ≡ shown n emptyReport)
 
 only-zero : (a : Answer ClientHello) → Numbered a → (parsedOf a) .number ≡ 0 → (v : ClientHello) × (a ≡ result v)
-unfolding parsedOf
+unfolding parsedOf shown
 only-zero (result v) f e = (v, refl)
 only-zero (refused n) f e = absurd (omega (arith, e, f .0))
 
 refusal-empty : (a : Answer ClientHello) → Numbered a → ((v : ClientHello) → a ≡ result v → ⊥)
-    → FromReader ((parsedOf a) .number) × ((parsedOf a) .report ≡ shown emptyReport)
+    → (n : ℕ) × FromReader n × (parsedOf a ≡ shown n emptyReport)
 unfolding parsedOf
 refusal-empty (result v) f g = absurd (g v refl)
-refusal-empty (refused n) f g = (f, refl)
+refusal-empty (refused n) f g = (n, f, refl)
 
 pub reported-exactly : (h : List ℕ) → Bytes h → Reported h
 unfolding parsedOf

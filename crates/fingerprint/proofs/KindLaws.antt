@@ -46,6 +46,9 @@ kind-type t = go (eqb t 0x0000) (eqb t 0x000a) (eqb t 0x000d) (eqb t 0x0010) (eq
 pub kind-same : (t u : ℕ) → kind t ≡ kind u → (kind u ≡ other → ⊥) → t ≡ u
 kind-same t u e n = kind-type t (λ o. n (sym e ∙ o)) ∙ ap typeFor e ∙ sym (kind-type u n)
 
+pub other-type : (t u : ℕ) → (kind u ≡ kind t → ⊥) → eqb t u ≡ false
+other-type t u n = ne-eqb t u (λ e. n (ap kind (sym e)))
+
 -- ---- places of notes
 
 pub slot-small : (k : Kind) → slot k < 8

@@ -97,12 +97,12 @@ module _ (h : List ℕ) (block : ℕ) (es : List Extension) (s : Span) (n : Note
       go none e f = absurd (let z : _≡_ {A = ℕ} 21 0 = f in omega (arith, z))
       go (some a) e f = ap (λ (l : List ℕ). some l) (name-drops bytes a e .0)
 
-  pub name-absent : s .length < 5 → firstOf (gathered namesIn block es) ≡ none
+  pub name-absent : s .length < 5 → firstOf (gathered namesIn 0x0000 block es) ≡ none
   unfolding firstOf
   name-absent k = rw (n .shows, absent k)
 
   pub name-there : 5 ≤ s .length
-      → firstOf (gathered namesIn block es) ≡ some (part (s .start + 5) (partOf h (span (s .start + 5) (s .length - 5))))
+      → firstOf (gathered namesIn 0x0000 block es) ≡ some (part (s .start + 5) (partOf h (span (s .start + 5) (s .length - 5))))
   unfolding firstOf
   name-there k = rw (n .shows, there k, after-five h s k)
 

@@ -1,10 +1,12 @@
 -- Every name in the report of an accepted hello lies in the hello where its range says. Assumes nothing.
 use Prim.Native.Nat.{ℕ, _+_, _≤_}
 use mathlib.Core.Path.{_≡_, refl, ap, _∙_, subst}
+use mathlib.Core.Bool.{Bool, true, false, cond}
 use mathlib.Core.List.{List, [], _∷_, _++_, append-assoc, append-nil}
 use mathlib.Core.Option.{some}
 use native.Mathlib.Omega.{arith}
 use lib.ListN.{length, take, drop, length-append}
+use lib.Dec.{eqb}
 use lib.Seq.{take-at, drop-at}
 use Rattle.wire.specs.Answer.{result}
 use Rattle.wire.specs.Numbers.{Bytes, digits}
@@ -18,7 +20,7 @@ use Rattle.fingerprint_bodies.proofs.BindLaws.{none-some, same-some}
 use Rattle.fingerprint_lists.specs.Arrays.{Part, placed}
 use Rattle.fingerprint.specs.ClientHello.{Extension, ClientHello, encodeExtension, encodeExtensions, encodeFields, encode, WellFormed}
 use Rattle.fingerprint.specs.Reader.{read}
-use Rattle.fingerprint.specs.Report.{protocolsIn, namesIn, gathered, blockPlace, firstOf, report, Lies}
+use Rattle.fingerprint.specs.Report.{namesIn, gathered, blockPlace, firstOf, report, Lies}
 use Rattle.fingerprint.proofs.WellFormed.{encoded-read}
 
 -- ---- bytes that stand at a place
@@ -73,21 +75,7 @@ module _ (h : List ℕ) where
       let next = stands-second at (1 + length n) (vector 1 n) (bytes.protocols ns) (length-vector 1 n) s in
       (here, all-placed (at + 1 + length n) ns (stands-at (at + (1 + length n)) (at + 1 + length n) (bytes.protocols ns) (omega arith) next))
 
-  abbrev Placed : (ℕ → Body → List Part) → Type 0
-  Placed f = (at : ℕ) (b : Body) → Stands h at (encodeBody b) → All (PartStands h) (f at b)
-
-  protocols-stand : Placed protocolsIn
-  unfolding protocolsIn encodeBody
-  protocols-stand at (server-name n) s = tt
-  protocols-stand at (supported-groups l) s = tt
-  protocols-stand at (signature-algorithms l) s = tt
-  protocols-stand at (application-protocols l) s = all-placed (at + 2) l (stands-vector at 2 (bytes.protocols l) s)
-  protocols-stand at (supported-versions l) s = tt
-  protocols-stand at (key-shares l) s = tt
-  protocols-stand at (transport-parameters l) s = tt
-  protocols-stand at (unread bs) s = tt
-
-  names-stand : Placed namesIn
+  names-stand : (at : ℕ) (b : Body) → Stands h at (encodeBody b) → All (PartStands h) (namesIn at b)
   unfolding namesIn encodeBody
   names-stand at (server-name n) s =
       let list = stands-vector at 2 (0x00 ∷ vector 2 n) s in
@@ -95,7 +83,7 @@ module _ (h : List ℕ) where
       (stands-at (at + 2 + 1 + 2) (at + 5) n (omega arith) name, tt)
   names-stand at (supported-groups l) s = tt
   names-stand at (signature-algorithms l) s = tt
-  names-stand at (application-protocols l) s = tt
+  names-stand at (application-protocols l) s = all-placed (at + 2) l (stands-vector at 2 (bytes.protocols l) s)
   names-stand at (supported-versions l) s = tt
   names-stand at (key-shares l) s = tt
   names-stand at (transport-parameters l) s = tt
@@ -107,19 +95,23 @@ module _ (h : List ℕ) where
   all-append [] b p q = q
   all-append (x ∷ a) b p q = (p .0, all-append a b (p .1) q)
 
-  all-gathered : (f : ℕ → Body → List Part) → Placed f → (at : ℕ) (es : List Extension) → Stands h at (encodeExtensions es) → All (PartStands h) (gathered f at es)
+  all-chosen : (b : Bool) (l : List Part) → All (PartStands h) l → All (PartStands h) (cond b l [])
+  all-chosen true l p = p
+  all-chosen false l p = tt
+
+  all-gathered : (t at : ℕ) (es : List Extension) → Stands h at (encodeExtensions es) → All (PartStands h) (gathered namesIn t at es)
   unfolding gathered encodeExtensions encodeExtension bytes.extension
-  all-gathered f g at [] s = tt
-  all-gathered f g at (e ∷ es) s =
+  all-gathered t at [] s = tt
+  all-gathered t at (e ∷ es) s =
       let b = encodeBody (e .body) in
-      let t = digits 256 2 (e .type) in
-      let one = stands-first at (t ++ vector 2 b) (encodeExtensions es) s in
-      let body = stands-vector (at + 2) 2 b (stands-second at 2 t (vector 2 b) (length-digits 256 2 (e .type)) one) in
-      let long : length (t ++ vector 2 b) ≡ 4 + length b = omega (arith, length-append t (vector 2 b), length-digits 256 2 (e .type), length-vector 2 b) in
-      let next = stands-second at (4 + length b) (t ++ vector 2 b) (encodeExtensions es) long s in
-      all-append (f (at + 4) (e .body)) (gathered f (at + 4 + length b) es)
-      (g (at + 4) (e .body) (stands-at (at + 2 + 2) (at + 4) b (omega arith) body))
-      (all-gathered f g (at + 4 + length b) es (stands-at (at + (4 + length b)) (at + 4 + length b) (encodeExtensions es) (omega arith) next))
+      let d = digits 256 2 (e .type) in
+      let one = stands-first at (d ++ vector 2 b) (encodeExtensions es) s in
+      let body = stands-vector (at + 2) 2 b (stands-second at 2 d (vector 2 b) (length-digits 256 2 (e .type)) one) in
+      let long : length (d ++ vector 2 b) ≡ 4 + length b = omega (arith, length-append d (vector 2 b), length-digits 256 2 (e .type), length-vector 2 b) in
+      let next = stands-second at (4 + length b) (d ++ vector 2 b) (encodeExtensions es) long s in
+      all-append (cond (eqb t (e .type)) (namesIn (at + 4) (e .body)) []) (gathered namesIn t (at + 4 + length b) es)
+      (all-chosen (eqb t (e .type)) (namesIn (at + 4) (e .body)) (names-stand (at + 4) (e .body) (stands-at (at + 2 + 2) (at + 4) b (omega arith) body)))
+      (all-gathered t (at + 4 + length b) es (stands-at (at + (4 + length b)) (at + 4 + length b) (encodeExtensions es) (omega arith) next))
 
   all-lie : (l : List Part) → All (PartStands h) l → All (Lies h) l
   all-lie [] s = tt
@@ -163,6 +155,6 @@ names-lie h b v e =
     let r = encoded-read h b v e in
     let s = block-stands h v (r .1) (r .0) in
     record {
-      alpn = all-lie h (gathered protocolsIn (blockPlace v) (v .extensions)) (all-gathered h protocolsIn (protocols-stand h) (blockPlace v) (v .extensions) s);
-      sni = first-lies h (gathered namesIn (blockPlace v) (v .extensions)) (all-gathered h namesIn (names-stand h) (blockPlace v) (v .extensions) s);
+      alpn = all-lie h (gathered namesIn 0x0010 (blockPlace v) (v .extensions)) (all-gathered h 0x0010 (blockPlace v) (v .extensions) s);
+      sni = first-lies h (gathered namesIn 0x0000 (blockPlace v) (v .extensions)) (all-gathered h 0x0000 (blockPlace v) (v .extensions) s);
     }

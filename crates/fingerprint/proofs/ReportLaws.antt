@@ -22,7 +22,7 @@ use Rattle.fingerprint_lists.specs.declared.Ids.{Ids}
 use Rattle.fingerprint_lists.specs.declared.Spans.{Spans}
 use Rattle.fingerprint.specs.ClientHello.{Extension, ClientHello, typeOf}
 use Rattle.fingerprint.specs.Reader.{withExtensions, allExtensions, read}
-use Rattle.fingerprint.specs.Report.{report, blockPlace, gathered, namesIn, firstOf, sniOf, shown, parsedOf, numberOf}
+use Rattle.fingerprint.specs.Report.{report, blockPlace, gathered, namesIn, firstOf, sniOf, emptyReport, shown, parsedOf, numberOf}
 use Rattle.fingerprint.specs.Calls.{rising, extensionSet, bytesOr, nameOr}
 use Rattle.fingerprint.specs.Code.{partOf, HeadFound, Noted, Surveyed, noteOf, nameIn, Readable, FoundOf, SurveyAs, typeNumber}
 use Rattle.fingerprint.specs.declared.Fingerprint.{Fingerprint}
@@ -34,14 +34,14 @@ use Rattle.fingerprint.proofs.NameLaws.{length-part-of, name-absent, na
 -- ---- The name
 
 pub name-shown : (h : List ℕ) (block : ℕ) (es : List Extension) (s : Span) → Noted h block es name s
-    → nameIn s ≡ sniOf (firstOf (gathered namesIn block es))
+    → nameIn s ≡ sniOf (firstOf (gathered namesIn 0x0000 block es))
 unfolding nameIn sniOf
 name-shown h block es s n = ⊎-elim short long (lt-or-le (s .length) 5)
   where
-    short : s .length < 5 → nameIn s ≡ sniOf (firstOf (gathered namesIn block es))
+    short : s .length < 5 → nameIn s ≡ sniOf (firstOf (gathered namesIn 0x0000 block es))
     short k = rw (lt-ltb (s .length) 5 k, name-absent h block es s n k)
 
-    long : 5 ≤ s .length → nameIn s ≡ sniOf (firstOf (gathered namesIn block es))
+    long : 5 ≤ s .length → nameIn s ≡ sniOf (firstOf (gathered namesIn 0x0000 block es))
     long k =
         let inner = span (s .start + 5) (s .length - 5) in
         let size : length (partOf h inner) ≡ s .length - 5 = length-part-of h inner (omega (arith, n .inside)) in
@@ -86,6 +86,7 @@ pub report-shown : {h : List ℕ} {session : ℕ} {suites : Span} {found : Surve
     → sni ≡ nameIn (noteOf found name)
     → ids ≡ idsOf (map idOf (orEmpty (transportParameters (partOf h (noteOf found parameters)))))
     → record {
+      number = 0;
       «legacy_session_id_len» = session;
       «cipher_suites» = suite-list .items;
       «suite_count» = suite-list .count;
@@ -104,7 +105,7 @@ pub report-shown : {h : List ℕ} {session : ℕ} {suites : Span} {found : Surve
       sni = sni;
       «transport_param_ids» = ids .items;
       «id_count» = ids .count;
-    } ≡ shown (report v)
+    } ≡ shown 0 (report v)
 unfolding shown report wordsOf groupsOf spansOf idsOf
 report-shown {h} {session} {suites} {found} {v} f suite-list group-list share-list algorithm-list version-list names sni ids a b c d e g k m =
     let w : suite-list ≡ wordsOf (v .cipherSuites) = a ∙ ap wordsOf (sym (f .suites-are)) in
@@ -117,6 +118,7 @@ report-shown {h} {session} {suites} {found} {v} f suite-list group-list share-li
     let is = m ∙ ap idsOf (sym (f .notes parameters .shows)) in
     let n = k ∙ name-shown h (blockPlace v) (v .extensions) (noteOf found name) (f .notes name) in
     λ i. record {
+      number = 0;
       «legacy_session_id_len» = sym (f .session-is) i;
       «cipher_suites» = w i .items;
       «suite_count» = w i .count;
@@ -196,9 +198,9 @@ module _ {h : List ℕ} {session : ℕ} {suites : Span} {block : ℕ} (head : He
 
     -- ---- The answers of the calls
 
-    pub parsed-result : (r : Fingerprint) → r ≡ shown (report helloOf) → record { number = 0; report = r } ≡ parsedOf (read h)
+    pub parsed-result : (r : Fingerprint) → r ≡ shown 0 (report helloOf) → r ≡ parsedOf (read h)
     unfolding parsedOf
-    parsed-result r e = rw read-result (λ i. record { number = 0; report = e i })
+    parsed-result r e = rw read-result e
 
     pub set-result : rising (map typeNumber (take (found .count) (found .types))) ≡ extensionSet (read h)
     unfolding extensionSet report
@@ -236,6 +238,10 @@ module _ {h : List ℕ} {session : ℕ} {suites : Span} {block : ℕ} (head : He
 -- ---- Where the hello is refused
 
 module _ {x : Answer ClientHello} {n : ℕ} (e : x ≡ refused n) where
+  pub refused-result : shown n emptyReport ≡ parsedOf x
+  unfolding parsedOf
+  refused-result = rw e
+
   pub name-refused : (default : List ℕ) → default ≡ nameOr default x
   unfolding nameOr
   name-refused default = rw e

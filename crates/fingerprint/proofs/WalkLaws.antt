@@ -14,15 +14,14 @@ use Rattle.wire.proofs.NumberLaws.{bytes-take, bytes-drop}
 use Rattle.wire.proofs.ListLaws.{length-part}
 use Rattle.profiles.specs.declared.ExtType.{ExtType}
 use Rattle.fingerprint_bodies.specs.Entries.{entry}
-use Rattle.fingerprint_bodies.specs.Conditions.{All}
-use Rattle.fingerprint_bodies.specs.Body.{Kind, kind, kindOf, encodeBody}
-use Rattle.fingerprint_bodies.proofs.LengthLaws.{encoded-length, body-kind}
+use Rattle.fingerprint_bodies.specs.Body.{Kind, kind, encodeBody}
+use Rattle.fingerprint_bodies.proofs.LengthLaws.{encoded-length}
 use Rattle.fingerprint_lists.specs.Arrays.{extType, span, padded}
 use Rattle.fingerprint_lists.specs.declared.Span.{Span}
 use Rattle.fingerprint_lists.proofs.FillLaws.{padded-none, padded-set}
 use Rattle.fingerprint.specs.ClientHello.{Extension, typeOf, encodeExtensions}
 use Rattle.fingerprint.specs.Reader.{extension, walk, allExtensions}
-use Rattle.fingerprint.specs.Code.{slot, Marked, StepFound, Noted, Surveyed, onward, HasKind, Walking}
+use Rattle.fingerprint.specs.Code.{slot, Marked, StepFound, Noted, Surveyed, onward, Walking}
 use Rattle.fingerprint.proofs.KindLaws.{slot-small}
 use Rattle.fingerprint.proofs.KnownLaws.{marked-none, marked-next}
 use Rattle.fingerprint.proofs.GatherLaws.{length-snoc, count-below}
@@ -66,10 +65,6 @@ module _ (h : List ℕ) (block : ℕ) where
 
 -- ---- one more at the end of lists
 
-all-snoc : {A : Type 0} (P : A → Type 0) (l : List A) (x : A) → All P l → P x → All P (l ++ (x ∷ []))
-all-snoc P [] x a p = (p, tt)
-all-snoc P (y ∷ l) x a p = (a .0, all-snoc P l x (a .1) p)
-
 module _ {A : Type 0} (z : A) (l items : List A) (n : ℕ) (is : items ≡ padded 64 z l) (count : n ≡ length l) where
   stored : (a : A) → n < 64 → set items n a ≡ padded 64 z (l ++ (a ∷ []))
   stored a h = rw (is, count) (padded-set 64 z l a (omega (arith, h, count)))
@@ -98,7 +93,6 @@ walking-start h block l = record {
   known-are = sym (padded-none 64 0);
   marks-long = length-replicate 64 false;
   marked = marked-none (replicate 64 false);
-  kinds = tt;
   bodies-long = length-replicate 8 (span 0 0);
   notes = λ k. subst (λ (s : Span). Noted h block [] k s) (sym (getD-replicate 8 (slot k) (span 0 0) (span 0 0) (slot-small k))) (notes-none h block k);
 }
@@ -161,13 +155,10 @@ module _ {h : List ℕ} {block at count : ℕ} {types : List ExtType} {known : L
     marked-all =
         rw (types-next, m) (marked-next (map typeOf (w .found)) marks t (omega (arith, w .marks-long)) (w .marked))
 
-    kind-is : kindOf (s .found) ≡ kind t
-    kind-is = body-kind (kind t) (take (end - start) (drop start h)) (s .found) (s .body-is)
-
     notes-all : (k : Kind) → Noted h block all k (getD (set bodies place (span start (end - start))) (slot k) (span 0 0))
     notes-all =
         rw p
-        (notes-next h block t start (end - start) (w .found) next bodies kind-is (omega (arith, w .bodies-long)) (w .kinds)
+        (notes-next h block start (end - start) (w .found) next bodies (omega (arith, w .bodies-long))
         (ap (λ (ts : List ℕ). member t ts) (sym known-take) ∙ s .new) (omega (arith, s .after-header, w .place)) (omega (arith, s .forward, s .inside)) (s .body-is) (s .good) (w .notes))
 
     pub walking-next : Walking h block end (count + 1) (set types count (extType t)) (set known count t) (set marks mark true) (set bodies place (span start (end - start)))
@@ -183,7 +174,6 @@ module _ {h : List ℕ} {block at count : ℕ} {types : List ExtType} {known : L
       known-are = stored 0 (map typeOf (w .found)) known count (w .known-are) known-count t room ∙ ap (λ (ts : List ℕ). padded 64 0 ts) (sym types-next);
       marks-long = length-set marks mark true ∙ w .marks-long;
       marked = marked-all;
-      kinds = all-snoc HasKind (w .found) next (w .kinds) kind-is;
       bodies-long = length-set bodies place (span start (end - start)) ∙ w .bodies-long;
       notes = notes-all;
     }

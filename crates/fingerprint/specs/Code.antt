@@ -10,15 +10,14 @@ use Rattle.wire.specs.Answer.{Answer, result, refused, andThen, IsNumber}
 use Rattle.wire.specs.Sums.{member}
 use Rattle.profiles.specs.declared.ExtType.{ExtType}
 use Rattle.fingerprint_bodies.specs.Entries.{entry, orEmpty, whole}
-use Rattle.fingerprint_bodies.specs.Conditions.{All}
-use Rattle.fingerprint_bodies.specs.Body.{Body, Kind, kind, kindOf, name, groups, algorithms, protocols, versions, shares, parameters, other}
+use Rattle.fingerprint_bodies.specs.Body.{Body, Kind, kind, name, groups, algorithms, protocols, versions, shares, parameters, other}
 use Rattle.fingerprint_bodies.specs.Forms.{wordsIn, wordList, serverName, protocolNames, keyShares, transportParameters, groupOf, idOf, bodyOf}
 use Rattle.fingerprint_bodies.specs.Code.{asked}
 use Rattle.fingerprint_lists.specs.Arrays.{extType, span, padded, Part, part, placed}
 use Rattle.fingerprint_lists.specs.declared.Span.{Span}
 use Rattle.fingerprint.specs.ClientHello.{Extension, ClientHello, typeOf, encodeExtensions}
 use Rattle.fingerprint.specs.Reader.{Fields, inForm, withExtensions, oneExtension, extension, walk, allExtensions, afterSuites, afterSession, fields, readExtensions, read}
-use Rattle.fingerprint.specs.Report.{groupsIn, sharesIn, algorithmsIn, versionsIn, idsIn, protocolsIn, namesIn, gathered, blockPlace, report, shown}
+use Rattle.fingerprint.specs.Report.{numbersIn, namesIn, gathered, blockPlace, report, shown}
 use Rattle.fingerprint.specs.declared.head.Head.{Head}
 use Rattle.fingerprint.specs.declared.head.Head.the-variants as head
 use Rattle.fingerprint.specs.declared.head.Place.{Place}
@@ -108,15 +107,15 @@ abbrev pub nameAt : ℕ → Option (List ℕ) → List Part
 nameAt at none = []
 nameAt at (some n) = part at n ∷ []
 
--- what the extensions put into the report, from a place of the hello on, is what the bytes of a body at a place hold
+-- what the report has of a kind, from the extensions that begin at a place of the hello, is what the bytes of a body at a place hold
 abbrev pub Shows : Kind → ℕ → List Extension → ℕ → List ℕ → Type 0
-Shows name block es at bs = gathered namesIn block es ≡ nameAt (at + 5) (serverName bs)
-Shows groups block es at bs = gathered groupsIn block es ≡ orEmpty (wordList 2 bs)
-Shows algorithms block es at bs = gathered algorithmsIn block es ≡ orEmpty (wordList 2 bs)
-Shows protocols block es at bs = gathered protocolsIn block es ≡ placed (at + 2) (orEmpty (protocolNames bs))
-Shows versions block es at bs = gathered versionsIn block es ≡ orEmpty (wordList 1 bs)
-Shows shares block es at bs = gathered sharesIn block es ≡ map groupOf (orEmpty (keyShares bs))
-Shows parameters block es at bs = gathered idsIn block es ≡ map idOf (orEmpty (transportParameters bs))
+Shows name block es at bs = gathered namesIn 0x0000 block es ≡ nameAt (at + 5) (serverName bs)
+Shows groups block es at bs = gathered numbersIn 0x000a block es ≡ orEmpty (wordList 2 bs)
+Shows algorithms block es at bs = gathered numbersIn 0x000d block es ≡ orEmpty (wordList 2 bs)
+Shows protocols block es at bs = gathered namesIn 0x0010 block es ≡ placed (at + 2) (orEmpty (protocolNames bs))
+Shows versions block es at bs = gathered numbersIn 0x002b block es ≡ orEmpty (wordList 1 bs)
+Shows shares block es at bs = gathered numbersIn 0x0033 block es ≡ map groupOf (orEmpty (keyShares bs))
+Shows parameters block es at bs = gathered numbersIn 0x0039 block es ≡ map idOf (orEmpty (transportParameters bs))
 Shows other block es at bs = Unit {0}
 
 -- each of these types has its mark, at its rest by 64
@@ -168,10 +167,6 @@ pub record Surveyed (h : List ℕ) (block : ℕ) (r : Survey) : Type 0 where
 unfoldable pub onward : List ℕ → ℕ → List Extension → ℕ → Answer (List Extension)
 onward h block found at = walk (length (drop block h) - length found) found (drop at h)
 
--- the body is of the kind that the type has
-abbrev pub HasKind : Extension → Type 0
-HasKind e = kindOf (e .body) ≡ kind (e .type)
-
 -- the walk's state before each extension
 pub record Walking (h : List ℕ) (block at count : ℕ) (types : List ExtType) (known : List ℕ) (marks : List Bool) (bodies : List Span) : Type 0 where
   pub found : List Extension
@@ -184,7 +179,6 @@ pub record Walking (h : List ℕ) (block at count : ℕ) (types : List ExtType) 
   pub known-are : known ≡ padded 64 0 (map typeOf found)
   pub marks-long : length marks ≡ 64
   pub marked : Marked (map typeOf found) marks
-  pub kinds : All HasKind found
   pub bodies-long : length bodies ≡ 8
   pub notes : (k : Kind) → Noted h block found k (getD bodies (slot k) (span 0 0))
 
@@ -221,7 +215,7 @@ pub record FoundOf (h : List ℕ) (session : ℕ) (suites : Span) (r : Survey) (
 
 -- the report of that ClientHello
 pub record Reported (h : List ℕ) (session : ℕ) (suites : Span) (found : Survey) (r : Fingerprint) : Type 0 where
-  pub is : (v : ClientHello) → FoundOf h session suites found v → r ≡ shown (report v)
+  pub is : (v : ClientHello) → FoundOf h session suites found v → r ≡ shown 0 (report v)
 
 -- the number of a type
 abbrev pub typeNumber : ExtType → ℕ

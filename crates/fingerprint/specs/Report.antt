@@ -1,16 +1,17 @@
 -- The report of a ClientHello: "the fields of `Fingerprint`", and the form in which the code hands them out.
 use Prim.Native.Nat.{ℕ, _+_, _*_, _≤_}
 use mathlib.Core.Path.{_≡_}
+use mathlib.Core.Bool.{cond}
 use mathlib.Core.List.{List, [], _∷_, _++_, map}
 use mathlib.Core.Option.{Option, none, some}
 use lib.ListN.{length, take, drop}
+use lib.Dec.{eqb}
 use Rattle.wire.specs.Answer.{Answer, result, refused}
 use Rattle.fingerprint_bodies.specs.Body.{Body, server-name, supported-groups, signature-algorithms, application-protocols, supported-versions, key-shares, transport-parameters, unread, encodeBody}
 use Rattle.fingerprint_bodies.specs.Forms.{groupOf, idOf}
 use Rattle.fingerprint_lists.specs.Arrays.{extType, group, span, padded, Part, part, spanOf, placed}
 use Rattle.fingerprint.specs.ClientHello.{Extension, ClientHello, typeOf}
 use Rattle.fingerprint.specs.declared.Fingerprint.{Fingerprint}
-use Rattle.fingerprint.specs.declared.Parsed.{Parsed}
 use Rattle.fingerprint.specs.declared.Sni.{Sni}
 use Rattle.fingerprint.specs.declared.Sni.the-variants.{At, Absent}
 
@@ -26,75 +27,26 @@ pub record Report : Type 0 where
   pub sni : Option Part
   pub transportParamIds : List ℕ
 
--- ---- What a body puts into each list; it stands at a place of the hello
+-- ---- What a body holds; it stands at a place of the hello, which its names tell
 
-unfoldable pub groupsIn : ℕ → Body → List ℕ
-groupsIn at (server-name n) = []
-groupsIn at (supported-groups l) = l
-groupsIn at (signature-algorithms l) = []
-groupsIn at (application-protocols l) = []
-groupsIn at (supported-versions l) = []
-groupsIn at (key-shares l) = []
-groupsIn at (transport-parameters l) = []
-groupsIn at (unread b) = []
+-- numbers: of key shares their groups, of transport parameters their ids
+unfoldable pub numbersIn : ℕ → Body → List ℕ
+numbersIn at (server-name n) = []
+numbersIn at (supported-groups l) = l
+numbersIn at (signature-algorithms l) = l
+numbersIn at (application-protocols l) = []
+numbersIn at (supported-versions l) = l
+numbersIn at (key-shares l) = map groupOf l
+numbersIn at (transport-parameters l) = map idOf l
+numbersIn at (unread b) = []
 
-unfoldable pub sharesIn : ℕ → Body → List ℕ
-sharesIn at (server-name n) = []
-sharesIn at (supported-groups l) = []
-sharesIn at (signature-algorithms l) = []
-sharesIn at (application-protocols l) = []
-sharesIn at (supported-versions l) = []
-sharesIn at (key-shares l) = map groupOf l
-sharesIn at (transport-parameters l) = []
-sharesIn at (unread b) = []
-
-unfoldable pub algorithmsIn : ℕ → Body → List ℕ
-algorithmsIn at (server-name n) = []
-algorithmsIn at (supported-groups l) = []
-algorithmsIn at (signature-algorithms l) = l
-algorithmsIn at (application-protocols l) = []
-algorithmsIn at (supported-versions l) = []
-algorithmsIn at (key-shares l) = []
-algorithmsIn at (transport-parameters l) = []
-algorithmsIn at (unread b) = []
-
-unfoldable pub versionsIn : ℕ → Body → List ℕ
-versionsIn at (server-name n) = []
-versionsIn at (supported-groups l) = []
-versionsIn at (signature-algorithms l) = []
-versionsIn at (application-protocols l) = []
-versionsIn at (supported-versions l) = l
-versionsIn at (key-shares l) = []
-versionsIn at (transport-parameters l) = []
-versionsIn at (unread b) = []
-
-unfoldable pub idsIn : ℕ → Body → List ℕ
-idsIn at (server-name n) = []
-idsIn at (supported-groups l) = []
-idsIn at (signature-algorithms l) = []
-idsIn at (application-protocols l) = []
-idsIn at (supported-versions l) = []
-idsIn at (key-shares l) = []
-idsIn at (transport-parameters l) = map idOf l
-idsIn at (unread b) = []
-
--- the first name's length stands after 2 bytes of list length
-unfoldable pub protocolsIn : ℕ → Body → List Part
-protocolsIn at (server-name n) = []
-protocolsIn at (supported-groups l) = []
-protocolsIn at (signature-algorithms l) = []
-protocolsIn at (application-protocols l) = placed (at + 2) l
-protocolsIn at (supported-versions l) = []
-protocolsIn at (key-shares l) = []
-protocolsIn at (transport-parameters l) = []
-protocolsIn at (unread b) = []
-
--- the name stands after 2 bytes of list length, 1 of type and 2 of length
+-- names: that of a server stands after 2 bytes of list length, 1 of type and 2 of its own length, the first protocol's length after 2
+-- bytes of list length
 unfoldable pub namesIn : ℕ → Body → List Part
 namesIn at (server-name n) = part (at + 5) n ∷ []
 namesIn at (supported-groups l) = []
 namesIn at (signature-algorithms l) = []
-namesIn at (application-protocols l) = []
+namesIn at (application-protocols l) = placed (at + 2) l
 namesIn at (supported-versions l) = []
 namesIn at (key-shares l) = []
 namesIn at (transport-parameters l) = []
@@ -102,10 +54,10 @@ namesIn at (unread b) = []
 
 -- ---- The report
 
--- what the extensions put into a list, one after the other; the first stands at a place of the hello
-unfoldable pub gathered : {A : Type 0} → (ℕ → Body → List A) → ℕ → List Extension → List A
-gathered f at [] = []
-gathered f at (e ∷ es) = f (at + 4) (e .body) ++ gathered f (at + 4 + length (encodeBody (e .body))) es
+-- what the extensions of a type hold, one after the other; the first extension stands at a place of the hello
+unfoldable pub gathered : {A : Type 0} → (ℕ → Body → List A) → ℕ → ℕ → List Extension → List A
+gathered f t at [] = []
+gathered f t at (e ∷ es) = cond (eqb t (e .type)) (f (at + 4) (e .body)) [] ++ gathered f t (at + 4 + length (encodeBody (e .body))) es
 
 -- where the first extension stands
 unfoldable pub blockPlace : ClientHello → ℕ
@@ -122,13 +74,13 @@ report v =
       sessionIdLength = length (v .sessionId);
       cipherSuites = v .cipherSuites;
       extensions = map typeOf (v .extensions);
-      supportedGroups = gathered groupsIn at (v .extensions);
-      keyShareGroups = gathered sharesIn at (v .extensions);
-      signatureAlgorithms = gathered algorithmsIn at (v .extensions);
-      supportedVersions = gathered versionsIn at (v .extensions);
-      alpn = gathered protocolsIn at (v .extensions);
-      sni = firstOf (gathered namesIn at (v .extensions));
-      transportParamIds = gathered idsIn at (v .extensions);
+      supportedGroups = gathered numbersIn 0x000a at (v .extensions);
+      keyShareGroups = gathered numbersIn 0x0033 at (v .extensions);
+      signatureAlgorithms = gathered numbersIn 0x000d at (v .extensions);
+      supportedVersions = gathered numbersIn 0x002b at (v .extensions);
+      alpn = gathered namesIn 0x0010 at (v .extensions);
+      sni = firstOf (gathered namesIn 0x0000 at (v .extensions));
+      transportParamIds = gathered numbersIn 0x0039 at (v .extensions);
     }
 
 -- "zero counts, an empty report"
@@ -157,8 +109,10 @@ unfoldable pub sniOf : Option Part → Sni
 sniOf none = Absent
 sniOf (some p) = At (spanOf p)
 
-unfoldable pub shown : Report → Fingerprint
-shown r = record {
+-- beside the number, which is 0 where the hello is accepted
+unfoldable pub shown : ℕ → Report → Fingerprint
+shown n r = record {
+  number = n;
   «legacy_session_id_len» = r .sessionIdLength;
   «cipher_suites» = padded 64 0 (r .cipherSuites);
   «suite_count» = length (r .cipherSuites);
@@ -179,10 +133,10 @@ shown r = record {
   «id_count» = length (r .transportParamIds);
 }
 
--- the number is 0 where the hello is accepted
-unfoldable pub parsedOf : Answer ClientHello → Parsed
-parsedOf (result v) = record { number = 0; report = shown (report v) }
-parsedOf (refused n) = record { number = n; report = shown emptyReport }
+-- "A refusal carries its number, zero counts, an empty report."
+unfoldable pub parsedOf : Answer ClientHello → Fingerprint
+parsedOf (result v) = shown 0 (report v)
+parsedOf (refused n) = shown n emptyReport
 
 unfoldable pub numberOf : Answer ClientHello → ℕ
 numberOf (result v) = 0

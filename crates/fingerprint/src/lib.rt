@@ -15,9 +15,10 @@ pub enum Sni {
     Absent,
 }
 
-// The fields of a ClientHello that a browser is known by. A list is an array with its count, and zeros past it; a name is a part of
-// the hello.
+// The report: the fields of a ClientHello that a browser is known by. A list is an array with its count, and zeros past it; a name is a
+// part of the hello. The number is 0, or that of the refusal, and then all else is empty.
 pub struct Fingerprint {
+    pub number: u64,
     pub legacy_session_id_len: usize,
     pub cipher_suites: [u16; 64],
     pub suite_count: usize,
@@ -36,10 +37,4 @@ pub struct Fingerprint {
     pub sni: Sni,
     pub transport_param_ids: [u64; 64],
     pub id_count: usize,
-}
-
-// 0 and the report, or a refusal's number and the empty report.
-pub struct Parsed {
-    pub number: u64,
-    pub report: Fingerprint,
 }

@@ -3,47 +3,35 @@ ghost use mathlib.Core.Path.{_≡_};
 ghost use mathlib.Core.List.{[], map};
 ghost use Prim.Native.Nat.{_≤_};
 ghost use lib.ListN.{length, take};
-ghost use Rattle.wire.specs.Answer as answer;
 ghost use Rattle.fingerprint_lists.specs.Arrays.{typesOf};
 ghost use Rattle.fingerprint.specs.Reader.{read};
 ghost use Rattle.fingerprint.specs.Report.{numberOf, parsedOf};
 ghost use Rattle.fingerprint.specs.Calls.{nameOr, rising, extensionSet};
 ghost use Rattle.fingerprint.specs.Code.{typeNumber};
-use crate::Parsed;
+use crate::Fingerprint;
 use crate::Sni;
 use crate::head::Head;
 use crate::head::read_head;
-use crate::report::empty_report;
 use crate::report::name_in;
 use crate::report::part;
+use crate::report::refused;
 use crate::report::report;
 use crate::walk::survey_block;
 use fingerprint_lists::Types;
 use profiles::ExtType;
 
-fn refused(number: u64) -> Parsed
-    ensures { λ r. ⌜ r ≡ parsedOf (answer.refused number) ⌝ }
-{
-    Parsed {
-        number,
-        report: empty_report(),
-    }
-}
-
-pub fn parse_clienthello(hello: &[u8]) -> Parsed
+// The report is handed out before the refusals, for then the compiler builds it where it is to stand.
+pub fn parse_clienthello(hello: &[u8]) -> Fingerprint
     ensures { λ r. ⌜ r ≡ parsedOf (read (now (hello .entry))) ⌝ }
 {
     match read_head(hello) {
         Head::Fields(session, suites, block) => {
             let found = survey_block(hello, block);
             let number = found.number;
-            if number != 0 {
-                return refused(number);
+            if number == 0 {
+                return report(hello, session, suites, found);
             }
-            Parsed {
-                number: 0,
-                report: report(hello, session, suites, found),
-            }
+            refused(number)
         }
         Head::Refused(number) => refused(number),
     }

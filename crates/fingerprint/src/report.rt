@@ -11,10 +11,12 @@ use fingerprint_lists::Span;
 use profiles::ExtType;
 use profiles::Group;
 
-pub fn empty_report() -> Fingerprint
-    ensures { λ r. ⌜ r ≡ shown emptyReport ⌝ }
+// The empty report, with the number of the refusal.
+pub fn refused(number: u64) -> Fingerprint
+    ensures { λ r. ⌜ r ≡ shown number emptyReport ⌝ }
 {
     Fingerprint {
+        number,
         legacy_session_id_len: 0,
         cipher_suites: [0; 64],
         suite_count: 0,
@@ -90,6 +92,7 @@ pub fn report(hello: &[u8], session: usize, suites: Span, found: Survey) -> Fing
     let alpn_items = alpn.items;
     let id_items = ids.items;
     Fingerprint {
+        number: 0,
         legacy_session_id_len: session,
         cipher_suites: suite_items,
         suite_count: suite_list.count,

@@ -43,17 +43,18 @@ fn any_parameter(rest: &[u8]) -> Parameter
     Parameter::Whole(id.value, head + length.value as usize)
 }
 
-// The same, where most parameters have an id and a length of one byte each: these take the short way, which is small enough to be
-// inlined.
+// The same, where most parameters have an id and a length of one byte each: these take the short way. The long way is called at two
+// places, and so is not inlined; what is left is small enough to be.
 pub fn one_parameter(rest: &[u8]) -> Parameter
     ensures { λ r. ⌜ ParameterAs r (now (rest .entry)) ⌝ }
 {
-    if 2 <= rest.len() {
-        let id = rest[0];
-        let length = rest[1];
-        if (id < 64) & (length < 64) {
-            return short_parameter(rest.len() - 2, id, length);
-        }
+    if rest.len() < 2 {
+        return any_parameter(rest);
+    }
+    let id = rest[0];
+    let length = rest[1];
+    if (id < 64) & (length < 64) {
+        return short_parameter(rest.len() - 2, id, length);
     }
     any_parameter(rest)
 }

@@ -1,5 +1,5 @@
--- What the extensions of a made hello put into a list of the report: it comes from the one extension of a type, and is empty where there is
--- none. Assumes nothing.
+-- What the extensions of a type hold in a made hello: it comes from the one extension of that type, and is empty where there is none.
+-- Assumes nothing.
 use Prim.Native.Nat.{ℕ, _+_, _≤_, _<_}
 use mathlib.Core.Path.{_≡_, refl, sym, ap, _∙_}
 use mathlib.Core.Bool.{Bool, true, false, cond, true≢false}
@@ -34,8 +34,8 @@ module _ (p : Profile) (host scid tape : List ℕ) where
   abbrev pub bodyAt : ℕ → ℕ → Body
   bodyAt t q = madeBody p host scid tape (kind t) t q
 
-  -- a list to which the bodies of all types but n add nothing
-  module _ {A : Type 0} (f : ℕ → Body → List A) (n : ℕ) (silent : (t at q : ℕ) → eqb n t ≡ false → f at (bodyAt t q) ≡ []) where
+  -- what the extensions of type n hold
+  module _ {A : Type 0} (f : ℕ → Body → List A) (n : ℕ) where
     other-type : (t : ℕ) (ts : List ℕ) → count n (t ∷ ts) ≡ 0 → eqb n t ≡ false
     other-type t ts h = go (eqb n t) refl
       where
@@ -43,21 +43,21 @@ module _ (p : Profile) (host scid tape : List ℕ) where
         go true e = absurd (omega (arith, h, count-cons n t ts, ap indicator e))
         go false e = e
 
-    -- what the extensions after the first add
+    -- of those after the first
     abbrev later : ℕ → List ℕ → ℕ → ℕ → List A
     later t ts at q =
-        gathered f (at + 4 + length (encodeBody (bodyAt t q))) (madeExtensions p host scid tape ts ((buildExtension p host scid tape t q) .next))
+        gathered f n (at + 4 + length (encodeBody (bodyAt t q))) (madeExtensions p host scid tape ts ((buildExtension p host scid tape t q) .next))
 
-    gathered-none : (ts : List ℕ) (at q : ℕ) → count n ts ≡ 0 → gathered f at (madeExtensions p host scid tape ts q) ≡ []
+    gathered-none : (ts : List ℕ) (at q : ℕ) → count n ts ≡ 0 → gathered f n at (madeExtensions p host scid tape ts q) ≡ []
     unfolding gathered madeExtensions madeExtension
     gathered-none [] at q h = refl
     gathered-none (t ∷ ts) at q h =
-        rw (silent t (at + 4) q (other-type t ts h))
+        rw (other-type t ts h)
         (gathered-none ts (at + 4 + length (encodeBody (bodyAt t q))) ((buildExtension p host scid tape t q) .next) (omega (arith, h, count-cons n t ts)))
 
-    -- what holds of the list that the body of type n adds holds of the whole list
+    -- what is true of what the body of type n holds is true of the whole list
     gathered-once : (P : List A → Type 0) → ((at q : ℕ) → P (f at (bodyAt n q))) → (ts : List ℕ) (at q : ℕ) → count n ts ≡ 1
-        → P (gathered f at (madeExtensions p host scid tape ts q))
+        → P (gathered f n at (madeExtensions p host scid tape ts q))
     unfolding gathered madeExtensions madeExtension
     gathered-once P here [] at q h = absurd (omega (arith, h, member-some n [] (member-nil n)))
     gathered-once P here (t ∷ ts) at q h =
@@ -66,16 +66,16 @@ module _ (p : Profile) (host scid tape : List ℕ) where
         go (λ k. gathered-none ts next drawn k) (λ k. gathered-once P here ts next drawn k) (eqb n t) refl
       where
         go : (count n ts ≡ 0 → later t ts at q ≡ []) → (count n ts ≡ 1 → P (later t ts at q)) → (b : Bool) → eqb n t ≡ b
-            → P (f (at + 4) (bodyAt t q) ++ later t ts at q)
+            → P (cond b (f (at + 4) (bodyAt t q)) [] ++ later t ts at q)
         go none once true e =
             let z : n ≡ t = eqb-true n t e in
             rw (none (omega (arith, h, count-cons n t ts, ap indicator e)), append-nil (f (at + 4) (bodyAt t q)), ← z) (here (at + 4) q)
-        go none once false e = rw (silent t (at + 4) q e) (once (omega (arith, h, count-cons n t ts, ap indicator e)))
+        go none once false e = once (omega (arith, h, count-cons n t ts, ap indicator e))
 
     -- ---- in the order drawn: types stand once each there, as in the profile
 
     abbrev pub shown : ℕ → List A
-    shown at = gathered f at (madeExtensions p host scid tape (order p tape) (afterOrder p))
+    shown at = gathered f n at (madeExtensions p host scid tape (order p tape) (afterOrder p))
 
     module _ (once : distinct (p .extensionsOrder) ≡ true) where
       pub present : (P : List A → Type 0) → ((at q : ℕ) → P (f at (bodyAt n q))) → (at : ℕ) → member n (p .extensionsOrder) ≡ true → P (shown at)
@@ -88,7 +88,7 @@ module _ (p : Profile) (host scid tape : List ℕ) where
             member-positive n (p .extensionsOrder) m,
           ))
 
-      -- a relation to what the profile has: it holds of the whole list where it holds of what the body adds, and of empty lists
+      -- a relation to what the profile has: it is true of the whole list where it is true of what the body holds, and of empty lists
       pub carries : {B : Type 0} (R : List A → List B → Type 0) (l : List B) → ((at q : ℕ) → R (f at (bodyAt n q)) l) → R [] [] → (at : ℕ)
           → R (shown at) (carried p n l)
       unfolding carried

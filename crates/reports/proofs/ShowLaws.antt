@@ -67,9 +67,9 @@ sni-shown h (some p) s = span-shown h p s
 
 -- ---- the report
 
-pub parts-shown : (h : List ℕ) (r : Report) → InRange h r → reportParts h (shown r) ≡ reportText r
+pub parts-shown : (h : List ℕ) (n : ℕ) (r : Report) → InRange h r → reportParts h (shown n r) ≡ reportText r
 unfolding reportParts reportText shown
-parts-shown h r i =
+parts-shown h n r i =
     rw (words-shown (r .cipherSuites), types-shown (r .extensions), groups-shown (r .supportedGroups), groups-shown (r .keyShareGroups), words-shown (r .signatureAlgorithms), words-shown (r .supportedVersions), protocols-shown h (r .alpn) (i .protocols-lie), sni-shown h (r .sni) (i .sni-lies), words-shown (r .transportParamIds))
 
 -- ---- what a report must meet to be written
@@ -87,9 +87,9 @@ unfolding sniOf
 sni-inside h none s = tt
 sni-inside h (some p) s = s .inside
 
-pub shown-sane : (h : List ℕ) (r : Report) → InRange h r → Sane h (shown r)
+pub shown-sane : (h : List ℕ) (n : ℕ) (r : Report) → InRange h r → Sane h (shown n r)
 unfolding shown
-shown-sane h r i =
+shown-sane h n r i =
     record {
       counts = record {
         suites = filled 64 0 (r .cipherSuites) _ refl (i .suites);

@@ -5,7 +5,7 @@ use mathlib.Core.List.{List}
 use borrow.Author.Needs.{needs}
 use denote.Ref.{now}
 use Rattle.wire.specs.Numbers.{Bytes}
-use Rattle.fingerprint.specs.Report.{report, shown}
+use Rattle.fingerprint.specs.Report.{report}
 use Rattle.fingerprint.specs.declared.Fingerprint.{Fingerprint}
 use Rattle.reports.specs.Lines.{reportText}
 use Rattle.reports.specs.Code.{reportParts}
@@ -46,7 +46,7 @@ put-report-requires c κs =
     let h : List ℕ = now (c .before .before .before .before .before .args .hello) in
     let bytes : Bytes h = λ i. ((c .before .before .before .before .shared-slice-known .given) i) .fits in
     let r = reported h bytes (parsed .result) (parsed .ensures) (c .before .if1 .left) in
-    rw (r .shows) (shown-sane h (report (r .value)) (r .writable))
+    rw (r .shows) (shown-sane h 0 (report (r .value)) (r .writable))
 
 same-length-2 : tie.Need-same-length-2
 same-length-2 c = search needs
@@ -59,8 +59,8 @@ returns-2 c =
     let h : List ℕ = now (args .hello) in
     let bytes : Bytes h = λ i. ((c .before .before .before .before .before .before .before .shared-slice-known .given) i) .fits in
     let r = reported h bytes (parsed .result) (parsed .ensures) (c .before .before .before .before .if1 .left) in
-    let text : reportParts h (parsed .result .report) ≡ reportText (report (r .value)) =
-    ap (λ (f : Fingerprint). reportParts h f) (r .shows) ∙ parts-shown h (report (r .value)) (r .writable) in
+    let text : reportParts h (parsed .result) ≡ reportText (report (r .value)) =
+    ap (λ (f : Fingerprint). reportParts h f) (r .shows) ∙ parts-shown h 0 (report (r .value)) (r .writable) in
     rw (r .accepted) (says-result (reportText (report (r .value))) (put .result) (now (args .out)) (put .last .0) (rw text at (put .ensures)))
 
 pub say-report-spec : {M : Type 1} → statement M

@@ -3,7 +3,7 @@ use mathlib.Core.Path.{_∙_, ap}
 use denote.Ref.{now}
 use Rattle.fingerprint.specs.Reader.{read}
 use Rattle.fingerprint.specs.Report.{parsedOf}
-use Rattle.fingerprint.specs.declared.Parsed.{Parsed}
+use Rattle.fingerprint.specs.declared.Fingerprint.{Fingerprint}
 use Rattle.compare_c.specs.Reading.{pickedOf}
 use Rattle.compare_c.proofs.ReadingLaws.{no-place, all-picked}
 use borrow.Author.Needs.{needs}
@@ -92,9 +92,9 @@ wrapping-add-u64-requires-2 c κs = search needs
 
 returns-2 : tie.Need-returns-2
 returns-2 c =
-    let args = c .before .before .before .before .before .before .before .before .before .before .before .before .before .before .before .before .before .before .before .before .args in
-    let if1 = c .before .before .before .before .before .before .before .before .before .before .before .before .before .before .before .before .before .before .if1 in
-    let parsed = c .before .before .before .before .before .before .before .before .before .before .before .before .before .before .before .before .before .parse-clienthello in
+    let args = c .before .before .before .before .before .before .before .before .before .before .before .before .before .before .before .before .before .before .before .args in
+    let if1 = c .before .before .before .before .before .before .before .before .before .before .before .before .before .before .before .before .before .if1 in
+    let parsed = c .before .before .before .before .before .before .before .before .before .before .before .before .before .before .before .before .parse-clienthello in
     let suite = c .before .before .before .before .before .before .before .before .before .before .add-word in
     let extension = c .before .before .before .before .before .before .before .before .before .add-word2 in
     let group = c .before .before .before .before .before .before .before .before .add-word3 in
@@ -105,7 +105,7 @@ returns-2 c =
     let id = c .wrapping-add-u642 in
     all-picked (parsed .result) (args .place) (suite .result) (extension .result) (group .result) (share .result) (algorithm .result) (version .result) (name .result) (id .result)
     (if1 .left) (suite .ensures) (extension .ensures) (group .ensures) (share .ensures) (algorithm .ensures) (version .ensures) (name .ensures) (id .ensures)
-    ∙ ap (λ (p : Parsed). pickedOf p (args .place)) (parsed .ensures)
+    ∙ ap (λ (p : Fingerprint). pickedOf p (args .place)) (parsed .ensures)
 
 pub compare-picked-spec : {M : Type 1} → statement M
 compare-picked-spec =

@@ -1,8 +1,7 @@
-use mathlib.Core.Path.{sym, ap, _∙_, subst}
-use Rattle.fingerprint.specs.Report.{parsedOf}
+use mathlib.Core.Path.{_∙_, subst}
 use Rattle.fingerprint.specs.Code.{HeadAs, HeadFound}
 use Rattle.fingerprint.specs.declared.head.Head.{Head}
-use Rattle.fingerprint.proofs.ReportLaws.{read-refused, helloOf, found-of, readable, parsed-result}
+use Rattle.fingerprint.proofs.ReportLaws.{read-refused, helloOf, found-of, readable, parsed-result, refused-result}
 use native.Mathlib.Omega.{arith}
 use borrow.Author.Needs.{needs}
 use Rattle.fingerprint.proofs.reading.parse_clienthello.Statement.{statement}
@@ -20,16 +19,17 @@ enum-known-session c = search needs
 survey-block-requires : tie.Need-survey-block-requires
 survey-block-requires c κs = ((head c) .inside, (head c) .short)
 
-refused-requires : tie.Need-refused-requires
-refused-requires c κs = search needs
+report-requires : tie.Need-report-requires
+report-requires c κs = readable (head (c .before .before)) ((c .before .survey-block .ensures .accepted) (c .if1 .taken))
 
 returns : tie.Need-returns
 returns c =
-    let e = read-refused (head (c .before .before .before)) (c .before .before .survey-block .result .number) ((c .before .before .survey-block .ensures .refuses) (omega (arith, (c .before .if1 .taken)))) in
-    (c .refused .ensures) ∙ sym (ap parsedOf e)
+    let head = head (c .before .before .before) in
+    let s = (c .before .before .survey-block .ensures .accepted) (c .before .if1 .taken) in
+    parsed-result head s (c .report .result) ((c .report .ensures .is) (helloOf head s) (found-of head s))
 
-report-requires : tie.Need-report-requires
-report-requires c κs = readable (head (c .before .before)) ((c .before .survey-block .ensures .accepted) (c .if1 .left))
+refused-requires : tie.Need-refused-requires
+refused-requires c κs = search needs
 
 enum-known-number : tie.Need-enum-known-number
 enum-known-number c = search needs
@@ -39,14 +39,13 @@ refused-requires-2 c κs = search needs
 
 returns-2 : tie.Need-returns-2
 returns-2 c =
-    let head = head (c .before .before .before) in
-    let s = (c .before .before .survey-block .ensures .accepted) (c .before .if1 .left) in
-    parsed-result head s (c .report .result) ((c .report .ensures .is) (helloOf head s) (found-of head s))
+    let e = read-refused (head (c .before .before .before)) (c .before .before .survey-block .result .number) ((c .before .before .survey-block .ensures .refuses) (omega (arith, (c .before .if1 .left)))) in
+    (c .refused .ensures) ∙ refused-result e
 
 returns-3 : tie.Need-returns-3
 returns-3 c =
     let e = (subst (λ (x : Head). HeadAs x (c .before .before .before .before .before .before .args .hello .now)) (c .before .before .number .given .1) (c .before .before .before .before .read-head .ensures)) .0 in
-    (c .refused2 .ensures) ∙ sym (ap parsedOf e)
+    (c .refused2 .ensures) ∙ refused-result e
 
 pub parse-clienthello-spec : {M : Type 1} → statement M
 parse-clienthello-spec =
@@ -55,9 +54,9 @@ parse-clienthello-spec =
     read-head-requires
     enum-known-session
     survey-block-requires
-    refused-requires
-    returns
     report-requires
+    returns
+    refused-requires
     enum-known-number
     refused-requires-2
     returns-2
