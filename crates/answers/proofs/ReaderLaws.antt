@@ -1,17 +1,16 @@
 -- What the commands of the reader need of its answers. Assumes nothing.
 use Prim.Native.Nat.{ℕ, _≤_}
-use mathlib.Core.Path.{_≡_, refl, sym, ap, _∙_}
-use mathlib.Core.List.{List, []}
+use mathlib.Core.Path.{_≡_, refl, ap}
+use mathlib.Core.List.{List}
 use mathlib.Core.Option.{Option, none, some}
 use native.Mathlib.Omega.{arith}
 use lib.ListN.{length}
 use Rattle.wire.specs.Answer.{Answer, result, refused}
 use Rattle.wire.specs.Numbers.{Bytes}
-use Rattle.fingerprint_bodies.specs.Conditions.{All}
 use Rattle.fingerprint.specs.ClientHello.{ClientHello}
 use Rattle.fingerprint.specs.Reader.{read}
 use Rattle.fingerprint.specs.Report.{report, shown, Lies, parsedOf}
-use Rattle.fingerprint.specs.Calls.{rising, extensionSet}
+use Rattle.fingerprint.specs.Calls.{extensionSet}
 use Rattle.fingerprint.specs.declared.Fingerprint.{Fingerprint}
 use Rattle.fingerprint.proofs.WellFormed.{encoded-read}
 use Rattle.fingerprint.proofs.Accepted.{Numbered, read-numbered}

@@ -15,7 +15,7 @@ use Rattle.wire.proofs.ListLaws.{length-part}
 use Rattle.profiles.specs.declared.ExtType.{ExtType}
 use Rattle.fingerprint_bodies.specs.Entries.{entry}
 use Rattle.fingerprint_bodies.specs.Body.{Kind, kind, encodeBody}
-use Rattle.fingerprint_bodies.proofs.LengthLaws.{encoded-length}
+use Rattle.fingerprint_bodies.proofs.BodyBack.{encoded-length}
 use Rattle.fingerprint_lists.specs.Arrays.{extType, span, padded}
 use Rattle.fingerprint_lists.specs.declared.Span.{Span}
 use Rattle.fingerprint_lists.proofs.FillLaws.{padded-none, padded-set}

@@ -1,7 +1,7 @@
 -- The reader: the ClientHello that bytes hold, or the number of the refusal (document 01, "Reading" and questions 16 to 23). The first
 -- "no" wins.
 use Prim.Native.Nat.{ℕ, zero, suc}
-use mathlib.Core.Bool.{Bool, not, _&&_}
+use mathlib.Core.Bool.{not, _&&_}
 use mathlib.Core.List.{List, [], _∷_, _++_, map}
 use mathlib.Core.Option.{Option, none, some}
 use lib.ListN.{length, drop, getD}
@@ -9,7 +9,7 @@ use lib.Dec.{eqb, leb, ltb}
 use Rattle.wire.specs.Answer.{Answer, result, refused, ask, andThen}
 use Rattle.wire.specs.Sums.{member}
 use Rattle.fingerprint_bodies.specs.Entries.{Entry, entry, bind, taken, numberAt, vectorAt, whole, atLeast, atMost}
-use Rattle.fingerprint_bodies.specs.Body.{Body, kind}
+use Rattle.fingerprint_bodies.specs.Body.{kind}
 use Rattle.fingerprint_bodies.specs.Forms.{evenWords, bodyOf, idsNew, withinCounts}
 use Rattle.fingerprint.specs.ClientHello.{Extension, ClientHello, typeOf}
 

@@ -9,7 +9,7 @@ use lib.ListN.{length}
 use lib.Dec.{leb}
 use Rattle.wire.specs.Sums.{distinct}
 use Rattle.fingerprint_bodies.specs.Entries.{mapped}
-use Rattle.fingerprint_bodies.specs.Body.{Share, Parameter, Body, server-name, supported-groups, signature-algorithms, application-protocols, supported-versions, key-shares, transport-parameters, name, groups, algorithms, protocols, versions, shares, parameters, other}
+use Rattle.fingerprint_bodies.specs.Body.{Parameter, Body, server-name, supported-groups, signature-algorithms, application-protocols, supported-versions, key-shares, transport-parameters, name, groups, algorithms, protocols, versions, shares, parameters, other}
 use Rattle.fingerprint_bodies.specs.Forms.{wordList, serverName, protocolNames, keyShares, transportParameters, idOf, bodyOf, idsNew, withinCounts}
 use Rattle.fingerprint_bodies.specs.Code.{formed, within, askedOf, asked}
 

@@ -251,3 +251,7 @@ body-back parameters bs b h e =
     subst (λ (x : Body). BodyIn parameters bs x) (m .made)
     (record { is = r .0; kinds = refl; formed = λ n w. record { few = leb-true (length (m .value)) 64 w; each = r .1; once = n } })
 body-back other bs b h e = subst (λ (x : Body). BodyIn other bs x) (same-some (unread bs) b e) (record { is = refl; kinds = refl; formed = λ n w. h })
+
+-- It must be known that they are bytes: a varint that begins with 256 has class 4, which has no width, so reading it takes no byte.
+pub encoded-length : (k : Kind) (bs : List ℕ) (b : Body) → Bytes bs → bodyOf k bs ≡ some b → length (encodeBody b) ≡ length bs
+encoded-length k bs b h e = ap length (body-back k bs b h e .is)

@@ -9,6 +9,5 @@ pub mod BindLaws
 pub mod RoundTrip
 pub mod EntryTrips
 pub mod BodyBack
-pub mod LengthLaws
 pub mod BodyRead
 pub mod BodyLaws

@@ -1,10 +1,10 @@
 -- One piece of a message: when it is there, and when not. Assumes nothing.
-use Prim.Native.Nat.{ℕ, _+_, _-_, _≤_, _<_}
+use Prim.Native.Nat.{ℕ, _-_, _≤_, _<_}
 use mathlib.Core.Path.{_≡_, refl, sym, ap, _∙_}
 use mathlib.Core.Bool.{Bool, true, false, _&&_, false≢true}
 use mathlib.Core.Logic.{⊎-elim}
 use mathlib.Core.List.{List}
-use mathlib.Core.Option.{Option, none, some}
+use mathlib.Core.Option.{none, some}
 use native.Mathlib.Omega.{arith}
 use borrow.Author.Tests.{le-leb, lt-leb, eq-eqb, leb-true, leb-false, eqb-true, ne-eqb}
 use lib.ListN.{length, take, drop, length-drop}
@@ -13,7 +13,7 @@ use lib.Dec.{eqb, leb}
 use Rattle.wire.specs.Numbers.{number}
 use Rattle.wire.proofs.ListLaws.{lt-or-le}
 use Rattle.wire.proofs.SumLaws.{and-left, and-right}
-use Rattle.fingerprint_bodies.specs.Entries.{Entry, entry, bind, taken, numberAt, vectorAt, whole}
+use Rattle.fingerprint_bodies.specs.Entries.{entry, bind, taken, numberAt, vectorAt, whole}
 use Rattle.fingerprint_bodies.specs.Code.{isWhole}
 
 pub taken-there : (n : ℕ) (bs : List ℕ) → n ≤ length bs → taken n bs ≡ some (entry (take n bs) (drop n bs))

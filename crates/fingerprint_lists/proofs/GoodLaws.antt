@@ -41,10 +41,6 @@ pub no-shares : orEmpty (keyShares []) ≡ []
 unfolding keyShares bind orEmpty
 no-shares = rw (whole-short 2 [] (omega arith))
 
-pub no-parameters : orEmpty (transportParameters []) ≡ []
-unfolding transportParameters allEntries entries orEmpty
-no-parameters = refl
-
 -- ---- a list after a count that reaches exactly the end
 
 module _ {A : Type 0} (f : List ℕ → Option (List A)) (m width : ℕ) (bs : List ℕ) where

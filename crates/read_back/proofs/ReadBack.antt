@@ -7,7 +7,6 @@ use native.Mathlib.Omega.{arith}
 use lib.ListN.{length, length-append, length-map}
 use lib.Dec.{ltb, lit<, lit≤}
 use borrow.Author.Tests.{ltb-true}
-use Rattle.wire.specs.Answer.{result}
 use Rattle.wire.specs.Numbers.{digits}
 use Rattle.wire.specs.Vectors.{vector, words}
 use Rattle.wire.specs.Sums.{Permutation, member, distinct}
@@ -24,7 +23,7 @@ use Rattle.tls.specs.Hello.{buildExtension, buildExtensions, order, fields, blo
 use Rattle.tls.proofs.Sent.{order-permutes, all-permutes}
 use Rattle.tls.proofs.Sizes.{hello-fits}
 use Rattle.fingerprint_bodies.specs.Conditions.{All}
-use Rattle.fingerprint.specs.ClientHello.{ClientHello, typeOf, encodeExtensions, encodeFields, encode, FormedExtension, WellFormed}
+use Rattle.fingerprint.specs.ClientHello.{typeOf, encodeExtensions, encodeFields, encode, FormedExtension, WellFormed}
 use Rattle.fingerprint.specs.Report.{Report, report}
 use Rattle.fingerprint.proofs.WellFormed.{read-encoded}
 use Rattle.read_back.specs.Shown.{alikeId, carried, Shows, Asked, Made, ReadBack}

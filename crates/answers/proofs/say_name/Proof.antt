@@ -1,9 +1,6 @@
 -- `say_name` writes the name, and hands it back. Assumes nothing.
-use mathlib.Core.Path.{_≡_}
 use borrow.Author.Needs.{needs}
 use denote.Ref.{now}
-use Rattle.fingerprint.specs.Reader.{read}
-use Rattle.fingerprint.specs.Calls.{nameOr}
 use Rattle.reports.specs.Lines.{nameAnswer}
 use Rattle.answers.proofs.AnswerLaws.{hands-back}
 use Rattle.answers.proofs.say_name.Statement.{statement}

@@ -13,7 +13,7 @@ use Rattle.reports.proofs.ShowLaws.{parts-shown, shown-sane}
 use Rattle.answers.specs.Answers.{reportAnswer}
 use Rattle.wire.specs.Answer.{refused}
 use Rattle.answers.proofs.AnswerLaws.{says-result, says-refused}
-use Rattle.answers.proofs.ReaderLaws.{Reported, reported, refusal-is}
+use Rattle.answers.proofs.ReaderLaws.{reported, refusal-is}
 use Rattle.answers.proofs.say_report.Statement.{statement}
 use Rattle.answers.proofs.say_report.Tie as tie
 

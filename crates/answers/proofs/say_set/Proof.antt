@@ -1,16 +1,15 @@
 -- `say_set` writes the types of the set. Assumes nothing.
 use Prim.Native.Nat.{ℕ}
-use mathlib.Core.Path.{_≡_, sym, ap, _∙_}
+use mathlib.Core.Path.{_≡_, ap, _∙_}
 use mathlib.Core.List.{List}
 use borrow.Author.Needs.{needs}
 use denote.Ref.{now}
 use Rattle.wire.specs.Numbers.{Bytes}
 use Rattle.fingerprint.specs.Reader.{read}
 use Rattle.fingerprint.specs.Calls.{extensionSet}
-use Rattle.fingerprint_lists.specs.Arrays.{typesOf}
 use Rattle.fingerprint_lists.specs.declared.Types.{Types}
 use Rattle.reports.specs.Lines.{setText}
-use Rattle.reports.specs.Code.{setParts, Filled}
+use Rattle.reports.specs.Code.{setParts}
 use Rattle.reports.proofs.ShowLaws.{set-shown, set-filled}
 use Rattle.answers.proofs.AnswerLaws.{says-result}
 use Rattle.answers.proofs.ReaderLaws.{set-few}

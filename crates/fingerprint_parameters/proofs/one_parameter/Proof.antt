@@ -3,10 +3,6 @@ use Rattle.fingerprint_parameters.proofs.ShortParameter.{short-found}
 use borrow.Author.Needs.{needs}
 use Rattle.fingerprint_parameters.proofs.one_parameter.Statement.{statement}
 use Rattle.fingerprint_parameters.proofs.one_parameter.Tie as tie
-use Rattle.fingerprint_parameters.proofs.one_parameter.Reads as reads
-use Rattle.fingerprint_parameters.proofs.one_parameter.Lts as lts
-use Rattle.fingerprint_parameters.proofs.any_parameter.Reads as any-parameter-reads
-use Rattle.fingerprint_parameters.proofs.short_parameter.Reads as short-parameter-reads
 
 any-parameter-requires : tie.Need-any-parameter-requires
 any-parameter-requires c κs = search needs

@@ -3,8 +3,6 @@ use borrow.Author.Tests.{lt-ltb, le-ltb}
 use Rattle.fingerprint_parameters.specs.Code.{shortOf}
 use Rattle.fingerprint_parameters.proofs.short_parameter.Statement.{statement}
 use Rattle.fingerprint_parameters.proofs.short_parameter.Tie as tie
-use Rattle.fingerprint_parameters.proofs.short_parameter.Reads as reads
-use Rattle.fingerprint_parameters.proofs.short_parameter.Lts as lts
 
 returns : tie.Need-returns
 unfolding shortOf
