@@ -67,7 +67,7 @@ module _ {A : Type 0} (f : ℕ → Body → List A) (t : ℕ) where
   pub gathered-other : (es : List Extension) (at : ℕ) (e : Extension) → eqb t (e .type) ≡ false → gathered f t at (es ++ (e ∷ [])) ≡ gathered f t at es
   gathered-other es at e n = gathered-snoc es at e ∙ rw (n, append-nil)
 
-  gathered-none : (es : List Extension) (at : ℕ) → member t (map typeOf es) ≡ false → gathered f t at es ≡ []
+  pub gathered-none : (es : List Extension) (at : ℕ) → member t (map typeOf es) ≡ false → gathered f t at es ≡ []
   unfolding gathered member any
   gathered-none [] at m = refl
   gathered-none (x ∷ es) at m =

@@ -5,6 +5,7 @@ pub mod KindLaws
 pub mod KnownLaws
 pub mod StepLaws
 pub mod GatherLaws
+pub mod IdLaws
 pub mod NoteLaws
 pub mod WalkLaws
 pub mod NameLaws

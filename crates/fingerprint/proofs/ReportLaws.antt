@@ -10,21 +10,20 @@ use lib.Seq.{take-at}
 use borrow.Author.Tests.{lt-ltb, le-ltb}
 use Rattle.wire.specs.Answer.{Answer, result, refused}
 use Rattle.fingerprint_bodies.specs.Entries.{orEmpty}
-use Rattle.fingerprint_bodies.specs.Body.{Kind, name, groups, algorithms, protocols, versions, shares, parameters}
-use Rattle.fingerprint_bodies.specs.Forms.{wordsIn, wordList, protocolNames, keyShares, transportParameters, groupOf, idOf}
+use Rattle.fingerprint_bodies.specs.Body.{Kind, name, groups, algorithms, protocols, versions, shares}
+use Rattle.fingerprint_bodies.specs.Forms.{wordsIn, wordList, protocolNames, keyShares, groupOf}
 use Rattle.fingerprint_bodies.specs.Code.{asked, Good}
-use Rattle.fingerprint_bodies.proofs.AskLaws.{asked-groups, asked-algorithms, asked-protocols, asked-versions, asked-shares, good-parameters}
-use Rattle.fingerprint_lists.specs.Arrays.{extType, span, padded, placed, wordsOf, groupsOf, idsOf, spansOf}
+use Rattle.fingerprint_bodies.proofs.AskLaws.{asked-groups, asked-algorithms, asked-protocols, asked-versions, asked-shares}
+use Rattle.fingerprint_lists.specs.Arrays.{extType, span, padded, placed, wordsOf, groupsOf, spansOf}
 use Rattle.fingerprint_lists.specs.declared.Span.{Span}
 use Rattle.fingerprint_lists.specs.declared.Words.{Words}
 use Rattle.fingerprint_lists.specs.declared.Groups.{Groups}
-use Rattle.fingerprint_lists.specs.declared.Ids.{Ids}
 use Rattle.fingerprint_lists.specs.declared.Spans.{Spans}
 use Rattle.fingerprint.specs.ClientHello.{Extension, ClientHello, typeOf}
 use Rattle.fingerprint.specs.Reader.{withExtensions, allExtensions, read}
 use Rattle.fingerprint.specs.Report.{report, blockPlace, gathered, namesIn, firstOf, sniOf, emptyReport, shown, parsedOf, numberOf}
 use Rattle.fingerprint.specs.Calls.{rising, extensionSet, bytesOr, nameOr}
-use Rattle.fingerprint.specs.Code.{partOf, HeadFound, Noted, Surveyed, noteOf, nameIn, Readable, FoundOf, SurveyAs, typeNumber}
+use Rattle.fingerprint.specs.Code.{partOf, HeadFound, Noted, IdsFound, Surveyed, noteOf, nameIn, Readable, FoundOf, SurveyAs, typeNumber}
 use Rattle.fingerprint.specs.declared.Fingerprint.{Fingerprint}
 use Rattle.fingerprint.specs.declared.Sni.{Sni}
 use Rattle.fingerprint.specs.declared.Sni.the-variants.{At, Absent}
@@ -72,11 +71,8 @@ module _ {h : List ℕ} {suites : Span} {r : Survey} (p : Readable h suites r) w
   pub good-shares : Good 64 keyShares (partOf h (noteOf r shares))
   good-shares l = sym (asked-shares (partOf h (noteOf r shares))) ∙ good shares l
 
-  pub good-ids : Good 64 transportParameters (partOf h (noteOf r parameters))
-  good-ids l = good-parameters (partOf h (noteOf r parameters)) (good parameters l)
-
-pub report-shown : {h : List ℕ} {session : ℕ} {suites : Span} {found : Survey} {v : ClientHello} → FoundOf h session suites found v
-    → (suite-list : Words) (group-list share-list : Groups) (algorithm-list version-list : Words) (names : Spans) (sni : Sni) (ids : Ids)
+pub report-shown : {h : List ℕ} {session : ℕ} {suites : Span} {found : Survey} {ids : List ℕ} {v : ClientHello} → FoundOf h session suites found ids v
+    → (suite-list : Words) (group-list share-list : Groups) (algorithm-list version-list : Words) (names : Spans) (sni : Sni)
     → suite-list ≡ wordsOf (wordsIn (partOf h suites))
     → group-list ≡ groupsOf (orEmpty (wordList 2 (partOf h (noteOf found groups))))
     → share-list ≡ groupsOf (map groupOf (orEmpty (keyShares (partOf h (noteOf found shares)))))
@@ -84,7 +80,6 @@ pub report-shown : {h : List ℕ} {session : ℕ} {suites : Span} {found : Surve
     → version-list ≡ wordsOf (orEmpty (wordList 1 (partOf h (noteOf found versions))))
     → names ≡ spansOf (placed (noteOf found protocols .start + 2) (orEmpty (protocolNames (partOf h (noteOf found protocols)))))
     → sni ≡ nameIn (noteOf found name)
-    → ids ≡ idsOf (map idOf (orEmpty (transportParameters (partOf h (noteOf found parameters)))))
     → record {
       number = 0;
       «legacy_session_id_len» = session;
@@ -103,11 +98,11 @@ pub report-shown : {h : List ℕ} {session : ℕ} {suites : Span} {found : Surve
       alpn = names .items;
       «alpn_count» = names .count;
       sni = sni;
-      «transport_param_ids» = ids .items;
-      «id_count» = ids .count;
+      «transport_param_ids» = ids;
+      «id_count» = found .«id_count»;
     } ≡ shown 0 (report v)
-unfolding shown report wordsOf groupsOf spansOf idsOf
-report-shown {h} {session} {suites} {found} {v} f suite-list group-list share-list algorithm-list version-list names sni ids a b c d e g k m =
+unfolding shown report wordsOf groupsOf spansOf
+report-shown {h} {session} {suites} {found} {ids} {v} f suite-list group-list share-list algorithm-list version-list names sni a b c d e g k =
     let w : suite-list ≡ wordsOf (v .cipherSuites) = a ∙ ap wordsOf (sym (f .suites-are)) in
     let count : found .count ≡ length (map typeOf (v .extensions)) = f .count-is ∙ sym (length-map (v .extensions) typeOf) in
     let gs = b ∙ ap groupsOf (sym (f .notes groups .shows)) in
@@ -115,7 +110,6 @@ report-shown {h} {session} {suites} {found} {v} f suite-list group-list share-li
     let als = d ∙ ap wordsOf (sym (f .notes algorithms .shows)) in
     let vs = e ∙ ap wordsOf (sym (f .notes versions .shows)) in
     let ps = g ∙ ap spansOf (sym (f .notes protocols .shows)) in
-    let is = m ∙ ap idsOf (sym (f .notes parameters .shows)) in
     let n = k ∙ name-shown h (blockPlace v) (v .extensions) (noteOf found name) (f .notes name) in
     λ i. record {
       number = 0;
@@ -135,8 +129,8 @@ report-shown {h} {session} {suites} {found} {v} f suite-list group-list share-li
       alpn = ps i .items;
       «alpn_count» = ps i .count;
       sni = n i;
-      «transport_param_ids» = is i .items;
-      «id_count» = is i .count;
+      «transport_param_ids» = f .ids-are .are i;
+      «id_count» = f .ids-are .count-is i;
     }
 
 -- ---- What the head and the walk found
@@ -146,7 +140,7 @@ module _ {h : List ℕ} {session : ℕ} {suites : Span} {block : ℕ} (head : He
   pub read-refused : (n : ℕ) → allExtensions (drop block h) ≡ refused n → read h ≡ refused n
   read-refused n e = rw (head .is, e)
 
-  module _ {found : Survey} (s : Surveyed h block found) where
+  module _ {found : Survey} {ids : List ℕ} (s : Surveyed h block found ids) where
     abbrev pub helloOf : ClientHello
     helloOf = withExtensions (head .found) (s .found)
 
@@ -160,8 +154,15 @@ module _ {h : List ℕ} {session : ℕ} {suites : Span} {block : ℕ} (head : He
     pub notes-of : (k : Kind) → Noted h (blockPlace helloOf) (s .found) k (noteOf found k)
     notes-of k = subst (λ (n : ℕ). Noted h n (s .found) k (noteOf found k)) block-is (s .notes k)
 
-    pub found-of : FoundOf h session suites found helloOf
-    found-of = record { session-is = head .session-is; suites-are = head .suites-are; count-is = s .count-is; types-are = s .types-are; notes = notes-of }
+    pub found-of : FoundOf h session suites found ids helloOf
+    found-of = record {
+      session-is = head .session-is;
+      suites-are = head .suites-are;
+      count-is = s .count-is;
+      types-are = s .types-are;
+      ids-are = subst (λ (n : ℕ). IdsFound n (s .found) (found .«id_count») ids) block-is (s .ids-are);
+      notes = notes-of;
+    }
 
     pub readable : Readable h suites found
     readable = record {
@@ -223,9 +224,9 @@ module _ {h : List ℕ} {session : ℕ} {suites : Span} {block : ℕ} (head : He
         let l = name-long (noteOf found name) p e in
         rw (l .1) (omega (arith, s .notes name .inside, l .0))
 
-  pub survey-number : {found : Survey} → SurveyAs h block found → found .number ≡ numberOf (read h)
+  pub survey-number : {found : Survey} {ids : List ℕ} → SurveyAs h block found ids → found .number ≡ numberOf (read h)
   unfolding numberOf
-  survey-number {found} a = ⊎-elim refuses accepts (lt-or-le 1 (found .number + 1))
+  survey-number {found} {ids} a = ⊎-elim refuses accepts (lt-or-le 1 (found .number + 1))
     where
       refuses : 1 < found .number + 1 → found .number ≡ numberOf (read h)
       refuses k = rw (read-refused (found .number) (a .refuses (omega arith)))

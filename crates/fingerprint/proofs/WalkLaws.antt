@@ -21,10 +21,11 @@ use Rattle.fingerprint_lists.specs.declared.Span.{Span}
 use Rattle.fingerprint_lists.proofs.FillLaws.{padded-none, padded-set}
 use Rattle.fingerprint.specs.ClientHello.{Extension, typeOf, encodeExtensions}
 use Rattle.fingerprint.specs.Reader.{extension, walk, allExtensions}
-use Rattle.fingerprint.specs.Code.{slot, Marked, StepFound, Noted, Surveyed, onward, Walking}
+use Rattle.fingerprint.specs.Code.{slot, Marked, Gained, StepFound, Noted, Surveyed, onward, Walking}
 use Rattle.fingerprint.proofs.KindLaws.{slot-small}
 use Rattle.fingerprint.proofs.KnownLaws.{marked-none, marked-next}
 use Rattle.fingerprint.proofs.GatherLaws.{length-snoc, count-below}
+use Rattle.fingerprint.proofs.IdLaws.{ids-none, ids-next}
 use Rattle.fingerprint.proofs.NoteLaws.{notes-none, notes-next}
 
 -- ---- turns
@@ -80,7 +81,7 @@ module _ {A : Type 0} (z : A) (l items : List A) (n : ℕ) (is : items ≡ padde
 -- ---- the state
 
 pub walking-start : (h : List ℕ) (block : ℕ) → block ≤ length h
-    → Walking h block block 0 (replicate 64 (extType 0)) (replicate 64 0) (replicate 64 false) (replicate 8 (span 0 0))
+    → Walking h block block 0 (replicate 64 (extType 0)) (replicate 64 0) (replicate 64 false) (replicate 8 (span 0 0)) (replicate 64 0) 0
 unfolding encodeExtensions
 walking-start h block l = record {
   found = [];
@@ -94,10 +95,12 @@ walking-start h block l = record {
   marks-long = length-replicate 64 false;
   marked = marked-none (replicate 64 false);
   bodies-long = length-replicate 8 (span 0 0);
+  ids-long = length-replicate {A = ℕ} 64 0;
+  ids-are = ids-none block;
   notes = λ k. subst (λ (s : Span). Noted h block [] k s) (sym (getD-replicate 8 (slot k) (span 0 0) (span 0 0) (slot-small k))) (notes-none h block k);
 }
 
-module _ {h : List ℕ} {block at count : ℕ} {types : List ExtType} {known : List ℕ} {marks : List Bool} {bodies : List Span} (w : Walking h block at count types known marks bodies) where
+module _ {h : List ℕ} {block at count : ℕ} {types : List ExtType} {known : List ℕ} {marks : List Bool} {bodies : List Span} {ids : List ℕ} {id-count : ℕ} (w : Walking h block at count types known marks bodies ids id-count) where
   known-count : count ≡ length (map typeOf (w .found))
   known-count = w .count-is ∙ sym (length-map (w .found) typeOf)
 
@@ -123,17 +126,19 @@ module _ {h : List ℕ} {block at count : ℕ} {types : List ExtType} {known : L
       → allExtensions (drop block h) ≡ refused n
   walking-stop n l s = w .is ∙ onward-stop h block (w .found) at l forward n (s (w .found) (sym known-take))
 
-  pub walking-end : length h ≤ at → Surveyed h block (record { number = 0; types = types; count = count; bodies = bodies })
+  pub walking-end : length h ≤ at → Surveyed h block (record { number = 0; types = types; count = count; bodies = bodies; «id_count» = id-count }) ids
   walking-end l = record {
     found = w .found;
     is = w .is ∙ onward-end h block (w .found) at l;
     count-is = w .count-is;
     few = w .few;
     types-are = w .types-are;
+    ids-are = w .ids-are;
     notes = w .notes;
   }
 
-  module _ {t start end mark place : ℕ} (m : mark ≡ t % 64) (p : place ≡ slot (kind t)) (bytes : Bytes h) (l : at < length h) (s : StepFound h at t start end (take count known)) where
+  module _ {t start end mark place : ℕ} (m : mark ≡ t % 64) (p : place ≡ slot (kind t)) (bytes : Bytes h) (l : at < length h) (s : StepFound h at t start end (take count known))
+      {n : ℕ} {new : List ℕ} (g : Gained (kind t) (take (end - start) (drop start h)) n ids new) where
     abbrev next : Extension
     next = record { type = t; body = s .found }
 
@@ -155,13 +160,19 @@ module _ {h : List ℕ} {block at count : ℕ} {types : List ExtType} {known : L
     marked-all =
         rw (types-next, m) (marked-next (map typeOf (w .found)) marks t (omega (arith, w .marks-long)) (w .marked))
 
+    type-new : member t (map typeOf (w .found)) ≡ false
+    type-new = ap (λ (ts : List ℕ). member t ts) (sym known-take) ∙ s .new
+
+    body-place : start ≡ block + length (encodeExtensions (w .found)) + 4
+    body-place = omega (arith, s .after-header, w .place)
+
     notes-all : (k : Kind) → Noted h block all k (getD (set bodies place (span start (end - start))) (slot k) (span 0 0))
     notes-all =
         rw p
         (notes-next h block start (end - start) (w .found) next bodies (omega (arith, w .bodies-long))
-        (ap (λ (ts : List ℕ). member t ts) (sym known-take) ∙ s .new) (omega (arith, s .after-header, w .place)) (omega (arith, s .forward, s .inside)) (s .body-is) (s .good) (w .notes))
+        type-new body-place (omega (arith, s .forward, s .inside)) (s .body-is) (s .good) (w .notes))
 
-    pub walking-next : Walking h block end (count + 1) (set types count (extType t)) (set known count t) (set marks mark true) (set bodies place (span start (end - start)))
+    pub walking-next : Walking h block end (count + 1) (set types count (extType t)) (set known count t) (set marks mark true) (set bodies place (span start (end - start))) new (id-count + n)
     walking-next = record {
       found = all;
       is = w .is ∙ onward-next h block (w .found) at l forward next end (s .is (w .found) (sym known-take));
@@ -175,5 +186,7 @@ module _ {h : List ℕ} {block at count : ℕ} {types : List ExtType} {known : L
       marks-long = length-set marks mark true ∙ w .marks-long;
       marked = marked-all;
       bodies-long = length-set bodies place (span start (end - start)) ∙ w .bodies-long;
+      ids-long = g .size;
+      ids-are = ids-next block start (w .found) next (take (end - start) (drop start h)) id-count n ids new (w .ids-are) g type-new body-place (s .body-is);
       notes = notes-all;
     }

@@ -7,12 +7,15 @@ use mathlib.Core.Option.{Option, none, some}
 use lib.ListN.{length, take, drop, getD}
 use lib.Dec.{ltb}
 use Rattle.wire.specs.Answer.{Answer, result, refused, andThen, IsNumber}
+use Rattle.wire.specs.Front.{front}
 use Rattle.wire.specs.Sums.{member}
 use Rattle.profiles.specs.declared.ExtType.{ExtType}
 use Rattle.fingerprint_bodies.specs.Entries.{entry, orEmpty, whole}
 use Rattle.fingerprint_bodies.specs.Body.{Body, Kind, kind, name, groups, algorithms, protocols, versions, shares, parameters, other}
 use Rattle.fingerprint_bodies.specs.Forms.{wordsIn, wordList, serverName, protocolNames, keyShares, transportParameters, groupOf, idOf, bodyOf}
 use Rattle.fingerprint_bodies.specs.Code.{asked}
+use Rattle.fingerprint_parameters.specs.Code.{idsIn}
+use Rattle.fingerprint_parameters.specs.declared.Asked.{Asked}
 use Rattle.fingerprint_lists.specs.Arrays.{extType, span, padded, Part, part, placed}
 use Rattle.fingerprint_lists.specs.declared.Span.{Span}
 use Rattle.fingerprint.specs.ClientHello.{Extension, ClientHello, typeOf, encodeExtensions}
@@ -23,6 +26,8 @@ use Rattle.fingerprint.specs.declared.head.Head.the-variants as head
 use Rattle.fingerprint.specs.declared.head.Place.{Place}
 use Rattle.fingerprint.specs.declared.head.Place.the-variants as place
 use Rattle.fingerprint.specs.declared.walk.Survey.{Survey}
+use Rattle.fingerprint.specs.declared.walk.Header.{Header}
+use Rattle.fingerprint.specs.declared.walk.Header.the-variants as header
 use Rattle.fingerprint.specs.declared.walk.Step.{Step}
 use Rattle.fingerprint.specs.declared.walk.Step.the-variants as step
 use Rattle.fingerprint.specs.declared.Fingerprint.{Fingerprint}
@@ -129,9 +134,31 @@ pub record HeaderFound (h : List ℕ) (at t start end : ℕ) : Type 0 where
   pub forward : start ≤ end
   pub inside : end ≤ length h
 
-abbrev pub HeaderAs : Step → List ℕ → ℕ → Type 0
-HeaderAs (step.Next t start end) h at = HeaderFound h at t start end
-HeaderAs (step.Refused n) h at = oneExtension (drop at h) ≡ none
+abbrev pub HeaderAs : Header → List ℕ → ℕ → Type 0
+HeaderAs (header.At t start end) h at = HeaderFound h at t start end
+HeaderAs header.Cut h at = oneExtension (drop at h) ≡ none
+
+-- the parameter ids that a body of a kind holds
+abbrev pub idsHeld : Kind → List ℕ → List ℕ
+idsHeld name bs = []
+idsHeld groups bs = []
+idsHeld algorithms bs = []
+idsHeld protocols bs = []
+idsHeld versions bs = []
+idsHeld shares bs = []
+idsHeld parameters bs = idsIn bs
+idsHeld other bs = []
+
+-- so many they are, and they were written over the front of an array
+pub record Gained (k : Kind) (bs : List ℕ) (n : ℕ) (old new : List ℕ) : Type 0 where
+  pub count-is : n ≡ length (idsHeld k bs)
+  pub output : new ≡ front (idsHeld k bs) old
+  pub size : length new ≡ 64
+
+-- the first "no" of the questions of a body, or its ids
+pub record BodyAsked (k : Kind) (bs : List ℕ) (r : Asked) (old new : List ℕ) : Type 0 where
+  pub is : r .number ≡ asked k bs
+  pub gained : r .number ≡ 0 → Gained k bs (r .ids) old new
 
 -- the next extension at a place, after others of these types
 pub record StepFound (h : List ℕ) (at t start end : ℕ) (known : List ℕ) : Type 0 where
@@ -145,9 +172,9 @@ pub record StepFound (h : List ℕ) (at t start end : ℕ) (known : List ℕ) : 
   pub forward : start ≤ end
   pub inside : end ≤ length h
 
-abbrev pub StepAs : Step → List ℕ → ℕ → List ℕ → Type 0
-StepAs (step.Next t start end) h at known = StepFound h at t start end known
-StepAs (step.Refused n) h at known = ((done : List Extension) → map typeOf done ≡ known → extension done (drop at h) ≡ refused n) × IsNumber n
+abbrev pub StepAs : Step → List ℕ → ℕ → List ℕ → List ℕ → List ℕ → Type 0
+StepAs (step.Next t start end n) h at known old new = StepFound h at t start end known × Gained (kind t) (take (end - start) (drop start h)) n old new
+StepAs (step.Refused n) h at known old new = ((done : List Extension) → map typeOf done ≡ known → extension done (drop at h) ≡ refused n) × IsNumber n
 
 -- a note lies inside the hello; the body there was found good, or the extension is not there and the note is empty
 pub record Noted (h : List ℕ) (block : ℕ) (es : List Extension) (k : Kind) (s : Span) : Type 0 where
@@ -155,12 +182,18 @@ pub record Noted (h : List ℕ) (block : ℕ) (es : List Extension) (k : Kind) (
   pub good : 0 < s .length → asked k (partOf h s) ≡ 0
   pub shows : Shows k block es (s .start) (partOf h s)
 
-pub record Surveyed (h : List ℕ) (block : ℕ) (r : Survey) : Type 0 where
+-- the parameter ids of these extensions, in an array, and their count
+pub record IdsFound (block : ℕ) (es : List Extension) (n : ℕ) (ids : List ℕ) : Type 0 where
+  pub are : ids ≡ padded 64 0 (gathered numbersIn 0x0039 block es)
+  pub count-is : n ≡ length (gathered numbersIn 0x0039 block es)
+
+pub record Surveyed (h : List ℕ) (block : ℕ) (r : Survey) (ids : List ℕ) : Type 0 where
   pub found : List Extension
   pub is : allExtensions (drop block h) ≡ result found
   pub count-is : r .count ≡ length found
   pub few : length found ≤ 64
   pub types-are : r .types ≡ padded 64 (extType 0) (map extType (map typeOf found))
+  pub ids-are : IdsFound block found (r .«id_count») ids
   pub notes : (k : Kind) → Noted h block found k (getD (r .bodies) (slot k) (span 0 0))
 
 -- the walk from a place on, after the extensions that were found
@@ -168,7 +201,7 @@ unfoldable pub onward : List ℕ → ℕ → List Extension → ℕ → Answer (
 onward h block found at = walk (length (drop block h) - length found) found (drop at h)
 
 -- the walk's state before each extension
-pub record Walking (h : List ℕ) (block at count : ℕ) (types : List ExtType) (known : List ℕ) (marks : List Bool) (bodies : List Span) : Type 0 where
+pub record Walking (h : List ℕ) (block at count : ℕ) (types : List ExtType) (known : List ℕ) (marks : List Bool) (bodies : List Span) (ids : List ℕ) (id-count : ℕ) : Type 0 where
   pub found : List Extension
   pub is : allExtensions (drop block h) ≡ onward h block found at
   pub place : at ≡ block + length (encodeExtensions found)
@@ -180,11 +213,13 @@ pub record Walking (h : List ℕ) (block at count : ℕ) (types : List ExtType) 
   pub marks-long : length marks ≡ 64
   pub marked : Marked (map typeOf found) marks
   pub bodies-long : length bodies ≡ 8
+  pub ids-long : length ids ≡ 64
+  pub ids-are : IdsFound block found id-count ids
   pub notes : (k : Kind) → Noted h block found k (getD bodies (slot k) (span 0 0))
 
 -- 0 where the walk came to the end, else the number of the refusal
-pub record SurveyAs (h : List ℕ) (block : ℕ) (r : Survey) : Type 0 where
-  pub accepted : r .number ≡ 0 → Surveyed h block r
+pub record SurveyAs (h : List ℕ) (block : ℕ) (r : Survey) (ids : List ℕ) : Type 0 where
+  pub accepted : r .number ≡ 0 → Surveyed h block r ids
   pub refuses : 0 < r .number → allExtensions (drop block h) ≡ refused (r .number)
   pub bound : r .number ≤ 27
 
@@ -206,16 +241,17 @@ pub record Readable (h : List ℕ) (suites : Span) (r : Survey) : Type 0 where
   pub good : (k : Kind) → 0 < noteOf r k .length → asked k (partOf h (noteOf r k)) ≡ 0
 
 -- what was found is that of a ClientHello
-pub record FoundOf (h : List ℕ) (session : ℕ) (suites : Span) (r : Survey) (v : ClientHello) : Type 0 where
+pub record FoundOf (h : List ℕ) (session : ℕ) (suites : Span) (r : Survey) (ids : List ℕ) (v : ClientHello) : Type 0 where
   pub session-is : length (v .sessionId) ≡ session
   pub suites-are : v .cipherSuites ≡ wordsIn (partOf h suites)
   pub count-is : r .count ≡ length (v .extensions)
   pub types-are : r .types ≡ padded 64 (extType 0) (map extType (map typeOf (v .extensions)))
+  pub ids-are : IdsFound (blockPlace v) (v .extensions) (r .«id_count») ids
   pub notes : (k : Kind) → Noted h (blockPlace v) (v .extensions) k (noteOf r k)
 
 -- the report of that ClientHello
-pub record Reported (h : List ℕ) (session : ℕ) (suites : Span) (found : Survey) (r : Fingerprint) : Type 0 where
-  pub is : (v : ClientHello) → FoundOf h session suites found v → r ≡ shown 0 (report v)
+pub record Reported (h : List ℕ) (session : ℕ) (suites : Span) (found : Survey) (ids : List ℕ) (r : Fingerprint) : Type 0 where
+  pub is : (v : ClientHello) → FoundOf h session suites found ids v → r ≡ shown 0 (report v)
 
 -- the number of a type
 abbrev pub typeNumber : ExtType → ℕ

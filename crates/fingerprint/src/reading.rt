@@ -26,10 +26,11 @@ pub fn parse_clienthello(hello: &[u8]) -> Fingerprint
 {
     match read_head(hello) {
         Head::Fields(session, suites, block) => {
-            let found = survey_block(hello, block);
+            let mut ids = [0u64; 64];
+            let found = survey_block(hello, block, &mut ids);
             let number = found.number;
             if number == 0 {
-                return report(hello, session, suites, found);
+                return report(hello, session, suites, found, ids);
             }
             refused(number)
         }
@@ -43,7 +44,8 @@ pub fn refusal(hello: &[u8]) -> u64
 {
     match read_head(hello) {
         Head::Fields(_, _, block) => {
-            let found = survey_block(hello, block);
+            let mut ids = [0u64; 64];
+            let found = survey_block(hello, block, &mut ids);
             found.number
         }
         Head::Refused(number) => number,
@@ -57,7 +59,8 @@ pub fn name_or<'a>(hello: &'a [u8], default: &'a [u8]) -> &'a [u8]
     let Head::Fields(_, _, block) = read_head(hello) else {
         return default;
     };
-    let found = survey_block(hello, block);
+    let mut ids = [0u64; 64];
+    let found = survey_block(hello, block, &mut ids);
     if found.number != 0 {
         return default;
     }
@@ -76,7 +79,8 @@ pub fn extension_set(hello: &[u8]) -> Types
     let Head::Fields(_, _, block) = read_head(hello) else {
         return no_types();
     };
-    let found = survey_block(hello, block);
+    let mut ids = [0u64; 64];
+    let found = survey_block(hello, block, &mut ids);
     if found.number != 0 {
         return no_types();
     }

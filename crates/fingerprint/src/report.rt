@@ -65,9 +65,15 @@ pub fn name_in(body: Span) -> Sni
     })
 }
 
-pub fn report(hello: &[u8], session: usize, suites: Span, found: Survey) -> Fingerprint
+pub fn report(
+    hello: &[u8],
+    session: usize,
+    suites: Span,
+    found: Survey,
+    ids: [u64; 64],
+) -> Fingerprint
     requires { ⌜ Readable (now hello) suites found ⌝ }
-    ensures { λ r. ⌜ Reported (now (hello .entry)) session suites found r ⌝ }
+    ensures { λ r. ⌜ Reported (now (hello .entry)) session suites found ids r ⌝ }
 {
     let bodies = found.bodies;
     let suite_list = fingerprint_lists::words_in(part(hello, suites));
@@ -81,8 +87,6 @@ pub fn report(hello: &[u8], session: usize, suites: Span, found: Survey) -> Fing
     let versions = fingerprint_lists::word_list(part(hello, at_versions), 1);
     let at_protocols = bodies[3];
     let alpn = fingerprint_lists::protocol_names(part(hello, at_protocols), at_protocols.start);
-    let at_parameters = bodies[6];
-    let ids = fingerprint_lists::parameter_ids(part(hello, at_parameters));
     let types = found.types;
     let suite_items = suite_list.items;
     let group_items = groups.items;
@@ -90,7 +94,6 @@ pub fn report(hello: &[u8], session: usize, suites: Span, found: Survey) -> Fing
     let algorithm_items = algorithms.items;
     let version_items = versions.items;
     let alpn_items = alpn.items;
-    let id_items = ids.items;
     Fingerprint {
         number: 0,
         legacy_session_id_len: session,
@@ -109,7 +112,7 @@ pub fn report(hello: &[u8], session: usize, suites: Span, found: Survey) -> Fing
         alpn: alpn_items,
         alpn_count: alpn.count,
         sni: name_in(bodies[0]),
-        transport_param_ids: id_items,
-        id_count: ids.count,
+        transport_param_ids: ids,
+        id_count: found.id_count,
     }
 }

@@ -1,29 +1,37 @@
-// The walk over the extensions: it only checks, and notes where the bodies stand that the report reads. Questions 20 to 23, for one
-// extension before the next.
+// The walk over the extensions: it only checks, and notes where the bodies stand that the report reads; the parameter ids, all of which
+// question 22 asks for, are read once and kept. Questions 20 to 23, for one extension before the next.
 ghost use Prim.Native.Nat.{_%_, _≤_};
 ghost use mathlib.Core.Path.{_≡_};
-ghost use lib.ListN.{length, take};
+ghost use lib.ListN.{length, take, replicate};
 ghost use Rattle.wire.specs.Sums.{member};
 ghost use Rattle.fingerprint_bodies.specs.Body.{kind};
-ghost use Rattle.fingerprint_bodies.specs.Code.{asked};
 ghost use Rattle.fingerprint.specs.Code as code;
-ghost use Rattle.fingerprint.specs.Code.{Marked, HeaderAs, StepAs, SurveyAs};
+ghost use Rattle.fingerprint.specs.Code.{Marked, HeaderAs, BodyAsked, StepAs, SurveyAs};
 use fingerprint_lists::Span;
+use fingerprint_parameters::Asked;
+use fingerprint_parameters::without_ids;
 use profiles::ExtType;
 use wire::be16;
 
-// What the walk found: the number of the refusal, or 0, the types, and for each kind of body the part of the hello that holds it, empty
-// where there is none.
+// What the walk found: the number of the refusal, or 0, the types, for each kind of body the part of the hello that holds it, empty
+// where there is none, and how many parameter ids there are.
 pub struct Survey {
     pub number: u64,
     pub types: [ExtType; 64],
     pub count: usize,
     pub bodies: [Span; 8],
+    pub id_count: usize,
 }
 
-// One extension: its type and its body's ends; or the number of the refusal.
+// A header: the extension's type and its body's ends; or header or body are not inside the block.
+pub enum Header {
+    At(u16, usize, usize),
+    Cut,
+}
+
+// One extension: its type, its body's ends, and how many parameter ids it has; or the number of the refusal.
 pub enum Step {
-    Next(u16, usize, usize),
+    Next(u16, usize, usize, usize),
     Refused(u64),
 }
 
@@ -43,19 +51,20 @@ fn slot(t: u16) -> usize
     }
 }
 
-// The questions of a body: each goes to its own reader.
-fn ask_body(t: u16, body: &[u8]) -> u64
-    ensures { λ r. ⌜ r ≡ asked (kind t) (now (body .entry)) ⌝ }
+// The questions of a body: each goes to its own reader. Question 22 reads all parameter ids, and they are left in the array.
+fn ask_body(t: u16, body: &[u8], ids: &mut [u64; 64]) -> Asked
+    requires { ⌜ length (now ids) ≡ 64 ⌝ }
+    ensures { λ r. ⌜ BodyAsked (kind t) (now (body .entry)) r (now (ids .entry)) (now (ids .exit)) ⌝ }
 {
     match t {
-        0x0000 => fingerprint_bodies::ask_name(body),
-        0x000a => fingerprint_bodies::ask_words(body, 2),
-        0x000d => fingerprint_bodies::ask_words(body, 2),
-        0x0010 => fingerprint_bodies::ask_protocols(body),
-        0x002b => fingerprint_bodies::ask_words(body, 1),
-        0x0033 => fingerprint_bodies::ask_shares(body),
-        0x0039 => fingerprint_parameters::ask_parameters(body),
-        _ => 0,
+        0x0000 => without_ids(fingerprint_bodies::ask_name(body)),
+        0x000a => without_ids(fingerprint_bodies::ask_words(body, 2)),
+        0x000d => without_ids(fingerprint_bodies::ask_words(body, 2)),
+        0x0010 => without_ids(fingerprint_bodies::ask_protocols(body)),
+        0x002b => without_ids(fingerprint_bodies::ask_words(body, 1)),
+        0x0033 => without_ids(fingerprint_bodies::ask_shares(body)),
+        0x0039 => fingerprint_parameters::ask_parameters(body, ids),
+        _ => without_ids(0),
     }
 }
 
@@ -91,42 +100,50 @@ fn is_known(known: &[u16; 64], count: usize, marks: &[bool; 64], t: u16) -> bool
     false
 }
 
-// The header of the extension at a place: its type and its body's ends; 20 where header or body are not inside the block.
-fn header(hello: &[u8], at: usize) -> Step
+// The header of the extension at a place.
+fn read_header(hello: &[u8], at: usize) -> Header
     requires { ⌜ (at ≤ length (now hello)) × (length (now hello) ≤ 16384) ⌝ }
     ensures { λ r. ⌜ HeaderAs r (now (hello .entry)) at ⌝ }
 {
     let n = hello.len();
     if n - at < 4 {
-        return Step::Refused(20);
+        return Header::Cut;
     }
     let length = be16(&hello[at + 2..]) as usize;
     let start = at + 4;
     if n - start < length {
-        return Step::Refused(20);
+        return Header::Cut;
     }
-    Step::Next(be16(&hello[at..]), start, start + length)
+    Header::At(be16(&hello[at..]), start, start + length)
 }
 
 // The questions of the extension at a place, after `count` others.
-fn extension(hello: &[u8], at: usize, known: &[u16; 64], count: usize, marks: &[bool; 64]) -> Step
-    requires { ⌜ (at ≤ length (now hello)) × (length (now hello) ≤ 16384) × (count ≤ 64) × (length (now known) ≡ 64) × (length (now marks) ≡ 64) × Marked (take count (now known)) (now marks) ⌝ }
-    ensures { λ r. ⌜ StepAs r (now (hello .entry)) at (take count (now (known .entry))) ⌝ }
+fn extension(
+    hello: &[u8],
+    at: usize,
+    known: &[u16; 64],
+    count: usize,
+    marks: &[bool; 64],
+    ids: &mut [u64; 64],
+) -> Step
+    requires { ⌜ (at ≤ length (now hello)) × (length (now hello) ≤ 16384) × (count ≤ 64) × (length (now known) ≡ 64) × (length (now marks) ≡ 64) × Marked (take count (now known)) (now marks) × (length (now ids) ≡ 64) ⌝ }
+    ensures { λ r. ⌜ StepAs r (now (hello .entry)) at (take count (now (known .entry))) (now (ids .entry)) (now (ids .exit)) ⌝ }
 {
-    let Step::Next(t, start, end) = header(hello, at) else {
+    let Header::At(t, start, end) = read_header(hello, at) else {
         return Step::Refused(20);
     };
     if is_known(known, count, marks, t) {
         return Step::Refused(21);
     }
-    let number = ask_body(t, &hello[start..end]);
+    let asked = ask_body(t, &hello[start..end], ids);
+    let number = asked.number;
     if number != 0 {
         return Step::Refused(number);
     }
     if 64 <= count {
         return Step::Refused(23);
     }
-    Step::Next(t, start, end)
+    Step::Next(t, start, end, asked.ids)
 }
 
 fn refused(number: u64) -> Survey
@@ -140,13 +157,15 @@ fn refused(number: u64) -> Survey
             start: 0,
             length: 0,
         }; 8],
+        id_count: 0,
     }
 }
 
-// The whole block, from a place on. The types stand in a second array as numbers, for an array of structs cannot be lent.
-pub fn survey_block(hello: &[u8], block: usize) -> Survey
-    requires { ⌜ (block ≤ length (now hello)) × (length (now hello) ≤ 16384) ⌝ }
-    ensures { λ r. ⌜ SurveyAs (now (hello .entry)) block r ⌝ }
+// The whole block, from a place on; parameter ids are left in an array of zeros. The types stand in a second array as numbers, for an
+// array of structs cannot be lent.
+pub fn survey_block(hello: &[u8], block: usize, ids: &mut [u64; 64]) -> Survey
+    requires { ⌜ (block ≤ length (now hello)) × (length (now hello) ≤ 16384) × (now ids ≡ replicate 64 0) ⌝ }
+    ensures { λ r. ⌜ SurveyAs (now (hello .entry)) block r (now (ids .exit)) ⌝ }
 {
     let n = hello.len();
     let mut types = [ExtType(0); 64];
@@ -157,10 +176,11 @@ pub fn survey_block(hello: &[u8], block: usize) -> Survey
         length: 0,
     }; 8];
     let mut count: usize = 0;
+    let mut id_count: usize = 0;
     let mut at = block;
     while at < n {
-        match extension(hello, at, &known, count, &marks) {
-            Step::Next(t, start, end) => {
+        match extension(hello, at, &known, count, &marks, ids) {
+            Step::Next(t, start, end, new_ids) => {
                 types[count] = ExtType(t);
                 known[count] = t;
                 marks[mark(t)] = true;
@@ -169,6 +189,7 @@ pub fn survey_block(hello: &[u8], block: usize) -> Survey
                     length: end - start,
                 };
                 count = count + 1;
+                id_count = id_count + new_ids;
                 at = end;
             }
             Step::Refused(number) => {
@@ -181,5 +202,6 @@ pub fn survey_block(hello: &[u8], block: usize) -> Survey
         types,
         count,
         bodies,
+        id_count,
     }
 }

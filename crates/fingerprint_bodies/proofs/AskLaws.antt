@@ -1,10 +1,9 @@
 -- The questions of a body, kind by kind. Assumes nothing.
 use Prim.Native.Nat.{ℕ}
 use mathlib.Core.Path.{_≡_, refl}
-use mathlib.Core.Bool.{Bool, true, false, cond}
+use mathlib.Core.Bool.{true, cond}
 use mathlib.Core.List.{List, map}
 use mathlib.Core.Option.{Option, none, some}
-use native.Mathlib.Omega.{arith}
 use lib.ListN.{length}
 use lib.Dec.{leb}
 use Rattle.wire.specs.Sums.{distinct}
@@ -70,16 +69,3 @@ parameters-asked (some l) = refl
 pub asked-parameters : (bs : List ℕ) → asked parameters bs ≡ idsAsked (transportParameters bs)
 unfolding asked bodyOf
 asked-parameters bs = parameters-asked (transportParameters bs)
-
-few-ids : (x : Option (List Parameter)) → idsAsked x ≡ 0 → within 64 x ≡ 0
-unfolding within
-few-ids none e = absurd (let z : _≡_ {A = ℕ} 21 0 = e in omega (arith, z))
-few-ids (some l) e = go (distinct (map idOf l)) e
-  where
-    go : (b : Bool) → _≡_ {A = ℕ} (cond b (cond (leb (length l) 64) 0 23) 22) 0 → _≡_ {A = ℕ} (cond (leb (length l) 64) 0 23) 0
-    go true k = k
-    go false k = absurd (let z : _≡_ {A = ℕ} 22 0 = k in omega (arith, z))
-
--- a body of parameters that was found good holds at most 64
-pub good-parameters : (bs : List ℕ) → asked parameters bs ≡ 0 → within 64 (transportParameters bs) ≡ 0
-good-parameters bs e = few-ids (transportParameters bs) (rw (asked-parameters bs) at e)

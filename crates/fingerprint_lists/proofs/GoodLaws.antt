@@ -1,5 +1,5 @@
 -- Bodies that were found good, and the empty bodies of extensions that are not there: the lists that they hold. Assumes nothing.
-use Prim.Native.Nat.{ℕ, suc, _%_, _/_, _≤_, _<_}
+use Prim.Native.Nat.{ℕ, suc, _%_, _/_, _≤_}
 use mathlib.Core.Path.{_≡_, refl, sym, _∙_}
 use mathlib.Core.Bool.{Bool, true, false, cond, _&&_}
 use mathlib.Core.List.{List, [], _∷_}
@@ -10,7 +10,7 @@ use lib.ListN.{length, drop, drop-of-length-le}
 use lib.Dec.{eqb, leb}
 use Rattle.wire.proofs.SumLaws.{and-right}
 use Rattle.fingerprint_bodies.specs.Entries.{bind, orEmpty, whole, atLeast, entries, allEntries}
-use Rattle.fingerprint_bodies.specs.Forms.{wordsIn, evenWords, wordList, oneName, someNames, protocolNames, oneShare, keyShares, transportParameters}
+use Rattle.fingerprint_bodies.specs.Forms.{wordsIn, evenWords, wordList, oneName, someNames, protocolNames, oneShare, keyShares}
 use Rattle.fingerprint_bodies.specs.Code.{within, isWhole, Found, Good}
 use Rattle.fingerprint_bodies.proofs.PieceLaws.{whole-is, whole-not, whole-short}
 
@@ -22,10 +22,6 @@ within-found m (some l) e = record { there = refl; few = go (leb (length l) m) r
     go : (t : Bool) → leb (length l) m ≡ t → _≡_ {A = ℕ} (cond t 0 23) 0 → length l ≤ m
     go true q e = leb-true (length l) m q
     go false q e = absurd (omega arith)
-
--- the list of a body that is there
-pub good-found : {A : Type 0} (m : ℕ) (read : List ℕ → Option (List A)) (bs : List ℕ) → Good m read bs → 0 < length bs → Found m (read bs)
-good-found m read bs g h = within-found m (read bs) (g h)
 
 -- ---- an extension that is not there
 
@@ -110,10 +106,3 @@ names-after (b ∷ bs) g =
     let q = whole-good someNames 16 2 (b ∷ bs) good in
     let p = q ∙ some-names (allEntries oneName (drop 2 (b ∷ bs))) (rw q at good) in
     rw p (record { found = within-found 16 (allEntries oneName (drop 2 (b ∷ bs))) (rw p at good); is = refl })
-
--- ---- transport parameters stand without a count
-
-pub parameters-found : (bs : List ℕ) → Good 64 transportParameters bs → Found 64 (transportParameters bs)
-unfolding transportParameters allEntries entries orEmpty
-parameters-found [] g = record { there = refl; few = omega arith }
-parameters-found (b ∷ bs) g = good-found 64 transportParameters (b ∷ bs) g (omega arith)

@@ -12,7 +12,7 @@ use Rattle.fingerprint_bodies.specs.Forms.{wordsIn}
 use Rattle.fingerprint_bodies.proofs.EntryLaws.{left, There, there-start, list-start, there-next, list-next, there-cut, list-end}
 use Rattle.profiles.specs.declared.Group.{Group}
 use Rattle.fingerprint_lists.specs.declared.Span.{Span}
-use Rattle.fingerprint_lists.specs.Arrays.{group, span, padded, wordsOf, groupsOf, idsOf, Part, spanOf, spansOf, placed}
+use Rattle.fingerprint_lists.specs.Arrays.{group, span, padded, wordsOf, groupsOf, Part, spanOf, spansOf, placed}
 use Rattle.fingerprint_lists.proofs.FillLaws.{Filled, filled-start, filled-room, filled-next, filled-end, filled-count, filled-as}
 
 -- ---- 16-bit numbers
@@ -102,10 +102,6 @@ placed-next start at n v p l =
 pub words-same : (l items : List ℕ) (n : ℕ) → items ≡ padded 64 0 l → n ≡ length l → record { items = items; count = n } ≡ wordsOf l
 unfolding wordsOf
 words-same l items n p q = λ i. record { items = p i; count = q i }
-
-pub ids-same : (l items : List ℕ) (n : ℕ) → items ≡ padded 64 0 l → n ≡ length l → record { items = items; count = n } ≡ idsOf l
-unfolding idsOf
-ids-same l items n p q = λ i. record { items = p i; count = q i }
 
 pub groups-same : (l : List ℕ) (items : List Group) (n : ℕ) → items ≡ padded 64 (group 0) (map group l) → n ≡ length (map group l) → record { items = items; count = n } ≡ groupsOf l
 unfolding groupsOf

@@ -8,7 +8,6 @@ use Rattle.fingerprint_lists.specs.declared.Span.{Span}
 use Rattle.fingerprint_lists.specs.declared.Words.{Words}
 use Rattle.fingerprint_lists.specs.declared.Groups.{Groups}
 use Rattle.fingerprint_lists.specs.declared.Types.{Types}
-use Rattle.fingerprint_lists.specs.declared.Ids.{Ids}
 use Rattle.fingerprint_lists.specs.declared.Spans.{Spans}
 
 abbrev pub extType : ℕ → ExtType
@@ -32,9 +31,6 @@ groupsOf l = record { items = padded 64 (group 0) (map group l); count = length 
 
 unfoldable pub typesOf : List ℕ → Types
 typesOf l = record { items = padded 64 (extType 0) (map extType l); count = length l }
-
-unfoldable pub idsOf : List ℕ → Ids
-idsOf l = record { items = padded 64 0 l; count = length l }
 
 -- ---- Parts of the hello
 

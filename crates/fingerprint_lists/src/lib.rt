@@ -4,12 +4,11 @@ ghost use mathlib.Core.List.{map};
 ghost use Prim.Native.Nat.{_+_, _≤_};
 ghost use lib.ListN.{length, drop};
 ghost use Rattle.fingerprint_bodies.specs.Entries.{orEmpty, allEntries};
-ghost use Rattle.fingerprint_bodies.specs.Forms.{wordsIn, wordList, oneName, protocolNames, oneShare, groupOf, keyShares, transportParameters, idOf};
+ghost use Rattle.fingerprint_bodies.specs.Forms.{wordsIn, wordList, oneName, protocolNames, oneShare, groupOf, keyShares};
 ghost use Rattle.fingerprint_bodies.specs.Code.{Found, Good};
-ghost use Rattle.fingerprint_lists.specs.Arrays.{wordsOf, groupsOf, idsOf, spansOf, placed};
+ghost use Rattle.fingerprint_lists.specs.Arrays.{wordsOf, groupsOf, spansOf, placed};
 use fingerprint_bodies::Name;
 use fingerprint_bodies::Share;
-use fingerprint_parameters::Parameter;
 use profiles::ExtType;
 use profiles::Group;
 use wire::be16;
@@ -32,11 +31,6 @@ pub struct Groups {
 
 pub struct Types {
     pub items: [ExtType; 64],
-    pub count: usize,
-}
-
-pub struct Ids {
-    pub items: [u64; 64],
     pub count: usize,
 }
 
@@ -158,23 +152,4 @@ pub fn protocol_names(body: &[u8], start: usize) -> Spans
         return names(&body[0..0], 0);
     }
     names(&body[2..], start + 2)
-}
-
-pub fn parameter_ids(body: &[u8]) -> Ids
-    requires { ⌜ Good 64 transportParameters (now body) ⌝ }
-    ensures { λ r. ⌜ r ≡ idsOf (map idOf (orEmpty (transportParameters (now (body .entry))))) ⌝ }
-{
-    let n = body.len();
-    let mut items = [0u64; 64];
-    let mut at: usize = 0;
-    let mut k: usize = 0;
-    while at < n {
-        let Parameter::Whole(id, used) = fingerprint_parameters::one_parameter(&body[at..]) else {
-            break;
-        };
-        items[k] = id;
-        at = at + used;
-        k = k + 1;
-    }
-    Ids { items, count: k }
 }

@@ -5,20 +5,20 @@ use mathlib.Core.Bool.{true, false, cond}
 use mathlib.Core.List.{List, map}
 use mathlib.Core.Option.{Option, none, some}
 use native.Mathlib.Omega.{arith}
-use lib.ListN.{length, take, getD, length-map}
+use lib.ListN.{length, take, length-map}
 use lib.Dec.{leb}
 use borrow.Author.Tests.{le-leb, lt-leb}
+use Rattle.wire.specs.Front.{front}
 use Rattle.wire.specs.Sums.{distinct}
+use Rattle.wire.proofs.FrontLaws.{take-front}
 use Rattle.fingerprint_bodies.specs.Entries.{mapped, orEmpty}
 use Rattle.fingerprint_bodies.specs.Body.{Parameter, parameters}
 use Rattle.fingerprint_bodies.specs.Forms.{transportParameters, idOf}
 use Rattle.fingerprint_bodies.specs.Code.{asked}
 use Rattle.fingerprint_bodies.proofs.EntryLaws.{There, Counts}
 use Rattle.fingerprint_bodies.proofs.AskLaws.{idsAsked, asked-parameters}
-use Rattle.fingerprint_parameters.specs.Code.{idsOf, countOf, Kept}
+use Rattle.fingerprint_parameters.specs.Code.{idsOf, idsIn, countOf, Kept, AskedIds}
 use Rattle.fingerprint_parameters.specs.declared.Count.the-variants as count
-use Rattle.fingerprint_parameters.proofs.MemberLaws.{take-same}
-use Rattle.fingerprint_parameters.proofs.ParameterLaws.{idsIn}
 
 -- ---- what a count says of the list
 
@@ -32,10 +32,10 @@ unfolding mapped orEmpty
 counted none k e = absurd (let z : _≡_ {A = ℕ} 0 1 = cc in omega arith)
 counted (some l) k e = let q : k ≡ length (map idOf l) = cc in record { there = refl; long = sym (q ∙ length-map l idOf) }
 
-ids-found : (x : Option (List Parameter)) → orEmpty (mapped (λ l. map idOf l) x) ≡ map idOf (orEmpty x)
+ids-there : (x : Option (List Parameter)) → There x → mapped (λ l. map idOf l) x ≡ some (map idOf (orEmpty x))
 unfolding mapped orEmpty
-ids-found none = refl
-ids-found (some l) = refl
+ids-there none t = absurd (let z : _≡_ {A = ℕ} 0 1 = cc in omega arith)
+ids-there (some l) t = refl
 
 there-asked : (x : Option (List Parameter)) → There x → idsAsked x ≡ cond (distinct (map idOf (orEmpty x))) (cond (leb (length (orEmpty x)) 64) 0 23) 22
 unfolding orEmpty
@@ -44,17 +44,24 @@ there-asked (some l) t = refl
 
 -- ---- the answers
 
-pub asked-cut : (bs new : List ℕ) → Kept (idsOf bs) count.Cut new → 21 ≡ asked parameters bs
-unfolding idsOf
-asked-cut bs new h = sym (asked-parameters bs ∙ cut (transportParameters bs) (h .is))
+-- a refusal says nothing of the array, but that it is as long
+no : (bs old new : List ℕ) (n : ℕ) → n ≡ asked parameters bs → (n ≡ 0 → ⊥) → length new ≡ 64 → AskedIds bs (record { number = n; ids = 0 }) old new
+no bs old new n e z l = record { is = e; count = λ q. absurd (z q); output = λ q. absurd (z q); size = l }
 
-module _ (bs new : List ℕ) (k : ℕ) (h : Kept (idsOf bs) (count.Are k) new) where
+pub asked-cut : (bs old new : List ℕ) → Kept (idsOf bs) count.Cut old new → AskedIds bs (record { number = 21; ids = 0 }) old new
+unfolding idsOf
+asked-cut bs old new h = no bs old new 21 (sym (asked-parameters bs ∙ cut (transportParameters bs) (h .is))) (λ z. omega (arith, z)) (h .size)
+
+module _ (bs old new : List ℕ) (k : ℕ) (h : Kept (idsOf bs) (count.Are k) old new) where
   all : Counts (transportParameters bs) k
   unfolding idsOf
   all = counted (transportParameters bs) k (h .is)
 
   pub all-there : There (transportParameters bs)
   all-there = all .there
+
+  ids-long : length (idsIn bs) ≡ k
+  ids-long = length-map (orEmpty (transportParameters bs)) idOf ∙ all .long
 
   asked-is : asked parameters bs ≡ cond (distinct (idsIn bs)) (cond (leb k 64) 0 23) 22
   asked-is =
@@ -63,23 +70,27 @@ module _ (bs new : List ℕ) (k : ℕ) (h : Kept (idsOf bs) (count.Are k) new) w
       ∙ ap (λ (n : ℕ). cond (distinct (idsIn bs)) (cond (leb n 64) 0 23) 22) (all .long)
 
   -- all ids stand in the array where there are at most 64
-  kept-all : k ≤ 64 → take k new ≡ idsIn bs
+  written : k ≤ 64 → new ≡ front (idsIn bs) old
   unfolding idsOf
-  kept-all few =
-      let ids : orEmpty (idsOf bs) ≡ idsIn bs = ids-found (transportParameters bs) in
-      let long : length (idsIn bs) ≡ k = length-map (orEmpty (transportParameters bs)) idOf ∙ all .long in
-      let same : (i : ℕ) → i < length (idsIn bs) → getD new i 0 ≡ getD (idsIn bs) i 0 =
-      λ i p. rw ids at (h .first i (rw ids p) (omega (arith, p, long, few))) in
-      rw long at (take-same (idsIn bs) new (omega (arith, long, few, h .size)) same)
+  written few = h .output (idsIn bs) (ids-there (transportParameters bs) all-there) (omega (arith, few, ids-long))
 
-  pub asked-good : k ≤ 64 → distinct (take k new) ≡ true → 0 ≡ asked parameters bs
-  asked-good few d = sym (asked-is ∙ rw (sym (ap (λ (l : List ℕ). distinct l) (kept-all few)) ∙ d, le-leb k 64 few))
+  kept-all : k ≤ 64 → take k new ≡ idsIn bs
+  kept-all few = rw (written few) (rw ids-long at (take-front (idsIn bs) old))
 
-  pub asked-few : k ≤ 64 → distinct (take k new) ≡ false → 22 ≡ asked parameters bs
-  asked-few few d = sym (asked-is ∙ rw (sym (ap (λ (l : List ℕ). distinct l) (kept-all few)) ∙ d))
+  pub asked-good : k ≤ 64 → distinct (take k new) ≡ true → AskedIds bs (record { number = 0; ids = k }) old new
+  asked-good few d =
+      record {
+        is = sym (asked-is ∙ rw (sym (ap (λ (l : List ℕ). distinct l) (kept-all few)) ∙ d, le-leb k 64 few));
+        count = λ z. sym ids-long;
+        output = λ z. written few;
+        size = h .size;
+      }
 
-  pub asked-many : 64 < k → distinct (idsIn bs) ≡ true → 23 ≡ asked parameters bs
-  asked-many many d = sym (asked-is ∙ rw (d, lt-leb k 64 many))
+  pub asked-few : k ≤ 64 → distinct (take k new) ≡ false → AskedIds bs (record { number = 22; ids = 0 }) old new
+  asked-few few d = no bs old new 22 (sym (asked-is ∙ rw (sym (ap (λ (l : List ℕ). distinct l) (kept-all few)) ∙ d))) (λ z. omega (arith, z)) (h .size)
 
-  pub asked-twice : distinct (idsIn bs) ≡ false → 22 ≡ asked parameters bs
-  asked-twice d = sym (asked-is ∙ rw d)
+  pub asked-many : 64 < k → distinct (idsIn bs) ≡ true → AskedIds bs (record { number = 23; ids = 0 }) old new
+  asked-many many d = no bs old new 23 (sym (asked-is ∙ rw (d, lt-leb k 64 many))) (λ z. omega (arith, z)) (h .size)
+
+  pub asked-twice : distinct (idsIn bs) ≡ false → AskedIds bs (record { number = 22; ids = 0 }) old new
+  asked-twice d = no bs old new 22 (sym (asked-is ∙ rw d)) (λ z. omega (arith, z)) (h .size)

@@ -1,10 +1,9 @@
 -- Numbers in a list: looking for one, and whether any stands twice. Assumes nothing.
-use Prim.Native.Nat.{ℕ, suc, _+_, _-_, _≤_, _<_}
+use Prim.Native.Nat.{ℕ, _+_, _-_, _≤_, _<_}
 use mathlib.Core.Path.{_≡_, refl, sym, ap, _∙_}
 use mathlib.Core.Bool.{Bool, true, false, true≢false}
 use mathlib.Core.Logic.{⊎-elim}
 use mathlib.Core.List.{List, [], _∷_, _++_}
-use native.Mathlib.Nat.{not-suc-le-zero, le-of-suc-le-suc}
 use native.Mathlib.Decide.{ℕ-discrete}
 use native.Mathlib.Numerals.{add-one}
 use native.Mathlib.Omega.{arith}
@@ -106,12 +105,3 @@ module _ (l : List ℕ) (i : ℕ) (h : i < length l) where
 
 pub new-start : (l : List ℕ) → distinct (take 0 l) ≡ true
 new-start l = distinct-nil
-
--- ---- two lists that agree place by place
-
-pub take-same : (l new : List ℕ) → length l ≤ length new → ((i : ℕ) → i < length l → getD new i 0 ≡ getD l i 0) → take (length l) new ≡ l
-take-same [] new h e = refl
-take-same (x ∷ l) [] h e = absurd (not-suc-le-zero h)
-take-same (x ∷ l) (y ∷ new) h e =
-    let first : y ≡ x = e 0 (omega arith) in
-    rw first (ap (λ (r : List ℕ). x ∷ r) (take-same l new (le-of-suc-le-suc h) (λ i p. e (suc i) (omega arith))))

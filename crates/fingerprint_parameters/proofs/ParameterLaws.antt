@@ -20,7 +20,7 @@ use Rattle.fingerprint_bodies.specs.Entries.{Entry, entry, bind, mapped, orEmpt
 use Rattle.fingerprint_bodies.specs.Body.{Number, Parameter}
 use Rattle.fingerprint_bodies.specs.Forms.{varintFound, varintAt, oneParameter, transportParameters, idOf}
 use Rattle.fingerprint_bodies.proofs.EntryLaws.{There, there-first, or-first, there-not}
-use Rattle.fingerprint_parameters.specs.Code.{ParameterFound, idsOf}
+use Rattle.fingerprint_parameters.specs.Code.{ParameterFound, idsOf, idsIn}
 
 -- ---- where a whole is there, so is each of its pieces, and what follows it is a later part of the same bytes
 
@@ -135,10 +135,6 @@ parameters-next (x ∷ r) v used b h u e =
     (omega (arith, length-drop used (x ∷ r))) (le-refl (length (drop used (x ∷ r))))))
 
 -- ---- a body from a place on
-
--- the ids of a body that is in its form
-abbrev pub idsIn : List ℕ → List ℕ
-idsIn bs = map idOf (orEmpty (transportParameters bs))
 
 module _ (l : List ℕ) (at : ℕ) (i : at < length l) where
   some-left : 0 < length (drop at l)

@@ -1,26 +1,27 @@
 -- What `read_ids` has read when it stands before a parameter, and what that says at its end. Assumes nothing.
 use Prim.Native.Nat.{ℕ, _+_, _≤_, _<_}
 use mathlib.Core.Path.{_≡_, refl, sym, ap, _∙_}
-use mathlib.Core.Logic.{⊎-elim}
 use mathlib.Core.List.{List, [], _∷_, _++_, append-assoc, append-nil}
 use mathlib.Core.Option.{Option, none, some}
 use native.Mathlib.Omega.{arith}
-use lib.ListN.{length, drop, set, getD, length-append, length-set, List·getD-append}
-use lib.Seq.{getD-set-same, getD-set-other, getD-at}
+use lib.ListN.{length, take, drop, set, getD, length-append, length-set}
+use lib.Seq.{getD-at, take-at, take-all}
 use Rattle.wire.specs.Numbers.{Bytes}
-use Rattle.wire.proofs.ListLaws.{lt-or-le}
-use Rattle.fingerprint_bodies.specs.Entries.{mapped, orEmpty}
+use Rattle.wire.specs.Front.{front}
+use Rattle.wire.proofs.FrontLaws.{front-none, front-more}
+use Rattle.fingerprint_bodies.specs.Entries.{mapped}
+use Rattle.fingerprint_bodies.proofs.BindLaws.{none-some, same-some}
 use Rattle.fingerprint_bodies.specs.Forms.{oneParameter}
 use Rattle.fingerprint_parameters.specs.Code.{ParameterFound, idsOf, Kept}
 use Rattle.fingerprint_parameters.specs.declared.Count.the-variants as count
 use Rattle.fingerprint_parameters.proofs.ParameterLaws.{ids-cut, ids-of-end, next-ids-of, next-within}
 
 -- k parameters stand before the place `at`: these ids, of which the array has those that it has room for
-pub record Reading (body ids : List ℕ) (at k : ℕ) : Type 0 where
+pub record Reading (body old ids : List ℕ) (at k : ℕ) : Type 0 where
   pub before : List ℕ
   pub long : length before ≡ k
   pub is : idsOf body ≡ mapped (λ r. before ++ r) (idsOf (drop at body))
-  pub kept : (i : ℕ) → i < k → i < 64 → getD ids i 0 ≡ getD before i 0
+  pub kept : k ≤ 64 → ids ≡ front before old
   pub few : k ≤ at
   pub within : at ≤ length body
   pub size : length ids ≡ 64
@@ -35,20 +36,20 @@ unfolding mapped
 mapped-last a y none = refl
 mapped-last a y (some r) = ap (λ (l : List ℕ). some l) (sym (append-assoc a (y ∷ []) r))
 
-pub reading-start : (body ids : List ℕ) → length ids ≡ 64 → Reading body ids 0 0
+pub reading-start : (body ids : List ℕ) → length ids ≡ 64 → Reading body ids ids 0 0
 reading-start body ids h =
     record {
       before = [];
       long = refl;
       is = mapped-same (idsOf body);
-      kept = λ i p q. absurd (omega arith);
+      kept = λ p. front-none ids;
       few = omega arith;
       within = omega arith;
       size = h;
     }
 
-module _ (body ids : List ℕ) (at k : ℕ) (r : Reading body ids at k) where
-  pub reading-next : Bytes body → at < length body → (id used : ℕ) → ParameterFound (drop at body) id used → Reading body (set ids k id) (at + used) (k + 1)
+module _ (body old ids : List ℕ) (at k : ℕ) (long : length old ≡ 64) (r : Reading body old ids at k) where
+  pub reading-next : Bytes body → at < length body → (id used : ℕ) → ParameterFound (drop at body) id used → Reading body old (set ids k id) (at + used) (k + 1)
   reading-next b h id used f =
       record {
         before = r .before ++ (id ∷ []);
@@ -63,34 +64,31 @@ module _ (body ids : List ℕ) (at k : ℕ) (r : Reading body ids at k) where
         size = length-set ids k id ∙ r .size;
       }
     where
-      kept-next : (i : ℕ) → i < k + 1 → i < 64 → getD (set ids k id) i 0 ≡ getD (r .before ++ (id ∷ [])) i 0
-      kept-next i p q =
-          ⊎-elim
-          (λ s.
-          getD-set-other ids k i id 0 (λ z. omega (arith, z, s))
-          ∙ r .kept i s q
-          ∙ sym (List·getD-append (r .before) (id ∷ []) 0 i (omega (arith, r .long, s))))
-          (λ s.
-          let z : i ≡ k = omega (arith, p, s) in
-          rw z (getD-set-same ids k id 0 (omega (arith, r .size, q, z)) ∙ sym (getD-at (r .before) id [] 0 k (r .long))))
-          (lt-or-le i k)
+      kept-next : k + 1 ≤ 64 → set ids k id ≡ front (r .before ++ (id ∷ [])) old
+      kept-next p =
+          let all : List ℕ = r .before ++ (id ∷ []) in
+          let counted : length all ≡ k + 1 = omega (arith, length-append (r .before) (id ∷ []), r .long) in
+          let these : take k all ≡ r .before = take-at (r .before) (id ∷ []) k (r .long) in
+          let this : getD all k 0 ≡ id = getD-at (r .before) id [] 0 k (r .long) in
+          let more = front-more k all old (omega (arith, counted)) (omega (arith, counted, p, long)) in
+          rw (r .kept (omega (arith, p))) (rw (these, this, take-all (k + 1) all (omega (arith, counted))) at more)
 
-  pub reading-cut : at < length body → oneParameter (drop at body) ≡ none → Kept (idsOf body) count.Cut ids
-  unfolding mapped orEmpty
+  pub reading-cut : at < length body → oneParameter (drop at body) ≡ none → Kept (idsOf body) count.Cut old ids
+  unfolding mapped
   reading-cut h e =
       let cut : idsOf body ≡ none = r .is ∙ rw (ids-cut body at h e) in
       record {
         is = rw cut;
         size = r .size;
-        first = λ i p q. absurd (let z : i < 0 = rw cut at p in omega (arith, z));
+        output = λ l p q. absurd (none-some (sym cut ∙ p));
       }
 
-  pub reading-end : length body ≤ at → Kept (idsOf body) (count.Are k) ids
-  unfolding mapped orEmpty
+  pub reading-end : length body ≤ at → Kept (idsOf body) (count.Are k) old ids
+  unfolding mapped
   reading-end h =
       let all : idsOf body ≡ some (r .before) = r .is ∙ rw (ids-of-end body at h, append-nil) in
       record {
         is = rw all (ap (λ (n : ℕ). count.Are n) (sym (r .long)));
         size = r .size;
-        first = λ i p q. rw all (let z : i < length (r .before) = rw all at p in r .kept i (omega (arith, z, r .long)) q);
+        output = λ l p q. let z : r .before ≡ l = same-some (r .before) l (sym all ∙ p) in rw (← z) (r .kept (omega (arith, q, r .long, ap length z)));
       }

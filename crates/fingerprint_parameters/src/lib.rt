@@ -7,16 +7,20 @@ ghost use Prim.Native.Nat.{_≤_};
 ghost use lib.ListN.{length, take};
 ghost use Rattle.wire.specs.Sums.{member, distinct};
 ghost use Rattle.fingerprint_bodies.specs.Entries.{orEmpty};
-ghost use Rattle.fingerprint_bodies.specs.Body.{parameters};
 ghost use Rattle.fingerprint_bodies.specs.Forms.{transportParameters, idOf};
-ghost use Rattle.fingerprint_bodies.specs.Code.{asked};
-ghost use Rattle.fingerprint_parameters.specs.Code.{ParameterAs, shortOf, idsOf, Kept};
+ghost use Rattle.fingerprint_parameters.specs.Code.{ParameterAs, shortOf, idsOf, Kept, AskedIds};
 use varint::Got;
 
 // A parameter at the front of some bytes: its id, and the bytes that it takes.
 pub enum Parameter {
     Whole(u64, usize),
     Cut,
+}
+
+// What is asked of a body: the number of the refusal, or 0, and then how many ids it has.
+pub struct Asked {
+    pub number: u64,
+    pub ids: usize,
 }
 
 // How many entries a list has; or one is cut.
@@ -72,7 +76,7 @@ fn short_parameter(left: usize, id: u8, length: u8) -> Parameter
 // Counts the parameters, and keeps the ids of the first 64.
 fn read_ids(body: &[u8], ids: &mut [u64; 64]) -> Count
     requires { ⌜ length (now ids) ≡ 64 ⌝ }
-    ensures { λ r. ⌜ Kept (idsOf (now (body .entry))) r (now (ids .exit)) ⌝ }
+    ensures { λ r. ⌜ Kept (idsOf (now (body .entry))) r (now (ids .entry)) (now (ids .exit)) ⌝ }
 {
     let n = body.len();
     let mut at: usize = 0;
@@ -164,22 +168,29 @@ pub fn ids_new(body: &[u8]) -> bool
     true
 }
 
-// Body in its form? 21 Ids all new? 22 At most 64 of them? 23
-pub fn ask_parameters(body: &[u8]) -> u64
-    ensures { λ r. ⌜ r ≡ asked parameters (now (body .entry)) ⌝ }
+// The number of a refusal, or 0, of a body that has no ids to tell.
+pub fn without_ids(number: u64) -> Asked
+    ensures { λ r. ⌜ r ≡ record { number = number; ids = 0 } ⌝ }
 {
-    let mut ids = [0u64; 64];
-    let Count::Are(k) = read_ids(body, &mut ids) else {
-        return 21;
+    Asked { number, ids: 0 }
+}
+
+// Body in its form? 21 Ids all new? 22 At most 64 of them? 23 Where there is no "no", the ids stand at the front of the array.
+pub fn ask_parameters(body: &[u8], ids: &mut [u64; 64]) -> Asked
+    requires { ⌜ length (now ids) ≡ 64 ⌝ }
+    ensures { λ r. ⌜ AskedIds (now (body .entry)) r (now (ids .entry)) (now (ids .exit)) ⌝ }
+{
+    let Count::Are(k) = read_ids(body, ids) else {
+        return without_ids(21);
     };
     if k <= 64 {
-        if all_new(&ids, k) {
-            return 0;
+        if all_new(ids, k) {
+            return Asked { number: 0, ids: k };
         }
-        return 22;
+        return without_ids(22);
     }
     if ids_new(body) {
-        return 23;
+        return without_ids(23);
     }
-    22
+    without_ids(22)
 }

@@ -12,7 +12,7 @@ kept : (c : tie.After-known-told) →
     let args = c .before .before .before .before .before .before .args in
     let reading = c .before .before .before .read-ids in
     let k = c .before .k in
-    Kept (idsOf (now (args .body))) (count.Are (k .given .0 .0)) (reading .last .1 .0)
+    Kept (idsOf (now (args .body))) (count.Are (k .given .0 .0)) (now (args .ids)) (reading .last .1 .0)
 kept c =
     let reading = c .before .before .before .read-ids in
     let k = c .before .k in
@@ -27,11 +27,14 @@ enum-known-k c = search needs
 enum-told : tie.Need-enum-told
 enum-told c = search needs
 
+without-ids-requires : tie.Need-without-ids-requires
+without-ids-requires c κs = search needs
+
 returns : tie.Need-returns
 returns c =
-    let args = c .before .before .before .before .before .args in
-    let reading = c .before .before .read-ids in
-    asked-cut (now (args .body)) _ (rw (c .enum-told .given .1) at (reading .ensures))
+    let args = c .before .before .before .before .before .before .args in
+    let reading = c .before .before .before .read-ids in
+    rw (c .without-ids .ensures) (asked-cut (now (args .body)) _ _ (rw (c .before .enum-told .given .1) at (reading .ensures)))
 
 all-new-requires : tie.Need-all-new-requires
 all-new-requires c κs = search needs
@@ -42,36 +45,44 @@ returns-2 c =
     let at-entry = c .before .before .before .before in
     let if1 = c .before .before .before .if1 in
     let looked = c .before .all-new in
-    asked-good (now (args .body)) _ _ (kept at-entry) (if1 .taken) (sym (looked .ensures) ∙ c .if2 .taken)
+    asked-good (now (args .body)) _ _ _ (kept at-entry) (if1 .taken) (sym (looked .ensures) ∙ c .if2 .taken)
+
+without-ids-requires-2 : tie.Need-without-ids-requires-2
+without-ids-requires-2 c κs = search needs
 
 returns-3 : tie.Need-returns-3
 returns-3 c =
-    let args = c .before .before .before .before .before .before .before .before .before .before .args in
-    let at-entry = c .before .before .before .before in
-    let if1 = c .before .before .before .if1 in
-    let looked = c .before .all-new in
-    asked-few (now (args .body)) _ _ (kept at-entry) (if1 .taken) (sym (looked .ensures) ∙ c .if2 .left)
+    let args = c .before .before .before .before .before .before .before .before .before .before .before .args in
+    let at-entry = c .before .before .before .before .before in
+    let if1 = c .before .before .before .before .if1 in
+    let looked = c .before .before .all-new in
+    rw (c .without-ids2 .ensures) (asked-few (now (args .body)) _ _ _ (kept at-entry) (if1 .taken) (sym (looked .ensures) ∙ c .before .if2 .left))
 
 ids-new-requires : tie.Need-ids-new-requires
 ids-new-requires c κs =
     let args = c .before .before .before .before .before .before .before .args in
-    let at-entry = c .before in
-    all-there (now (args .body)) _ _ (kept at-entry)
+    all-there (now (args .body)) _ _ _ (kept (c .before))
+
+without-ids-requires-3 : tie.Need-without-ids-requires-3
+without-ids-requires-3 c κs = search needs
 
 returns-4 : tie.Need-returns-4
 returns-4 c =
-    let args = c .before .before .before .before .before .before .before .before .before .args in
-    let at-entry = c .before .before .before in
-    let if1 = c .before .before .if1 in
-    let looked = c .before .ids-new in
-    asked-many (now (args .body)) _ _ (kept at-entry) (if1 .left) (sym (looked .ensures) ∙ c .if3 .taken)
+    let args = c .before .before .before .before .before .before .before .before .before .before .args in
+    let at-entry = c .before .before .before .before in
+    let if1 = c .before .before .before .if1 in
+    let looked = c .before .before .ids-new in
+    rw (c .without-ids3 .ensures) (asked-many (now (args .body)) _ _ _ (kept at-entry) (if1 .left) (sym (looked .ensures) ∙ c .before .if3 .taken))
+
+without-ids-requires-4 : tie.Need-without-ids-requires-4
+without-ids-requires-4 c κs = search needs
 
 returns-5 : tie.Need-returns-5
 returns-5 c =
-    let args = c .before .before .before .before .before .before .before .before .before .args in
-    let at-entry = c .before .before .before in
-    let looked = c .before .ids-new in
-    asked-twice (now (args .body)) _ _ (kept at-entry) (sym (looked .ensures) ∙ c .if3 .left)
+    let args = c .before .before .before .before .before .before .before .before .before .before .args in
+    let at-entry = c .before .before .before .before in
+    let looked = c .before .before .ids-new in
+    rw (c .without-ids4 .ensures) (asked-twice (now (args .body)) _ _ _ (kept at-entry) (sym (looked .ensures) ∙ c .before .if3 .left))
 
 pub ask-parameters-spec : {M : Type 1} → statement M
 ask-parameters-spec =
@@ -80,10 +91,14 @@ ask-parameters-spec =
     read-ids-requires
     enum-known-k
     enum-told
+    without-ids-requires
     returns
     all-new-requires
     returns-2
+    without-ids-requires-2
     returns-3
     ids-new-requires
+    without-ids-requires-3
     returns-4
+    without-ids-requires-4
     returns-5)

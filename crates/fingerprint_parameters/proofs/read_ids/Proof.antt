@@ -15,7 +15,7 @@ use Rattle.fingerprint_parameters.proofs.read_ids.Statement.{statement}
 use Rattle.fingerprint_parameters.proofs.read_ids.Tie as tie
 
 abbrev Inv-loop : tie.InvT-loop
-Inv-loop body ids₀ n at₀ k₀ ids at k = Reading body ids at k
+Inv-loop body ids₀ n at₀ k₀ ids at k = Reading body ids₀ ids at k
 
 abbrev μ-loop : tie.MeasureT-loop
 μ-loop body ids₀ n at₀ k₀ ids at k = length body - at
@@ -48,13 +48,13 @@ next : (c : tie.After-known-told Inv-loop μ-loop) →
     let args = c .before .before .before .before .before .before .before .before .args in
     let loop = c .before .before .before .before .before .before .loop in
     let id = c .before .id in
-    Reading (now (args .body)) (set (loop .ids) (loop .k) (id .given .0 .0)) (loop .at + id .given .0 .1 .0) (loop .k + 1)
+    Reading (now (args .body)) (now (args .ids)) (set (loop .ids) (loop .k) (id .given .0 .0)) (loop .at + id .given .0 .1 .0) (loop .k + 1)
 next c =
     let args = c .before .before .before .before .before .before .before .before .args in
     let start = c .before .before .before .before .before .before .before in
     let loop = c .before .before .before .before .before .before .loop in
     let test = c .before .before .before .before .before .loop-test in
-    reading-next (now (args .body)) (loop .ids) (loop .at) (loop .k) (loop .inv) (bytes start) (test .taken) _ _ (found c)
+    reading-next (now (args .body)) (now (args .ids)) (loop .ids) (loop .at) (loop .k) (start .before .pre) (loop .inv) (bytes start) (test .taken) _ _ (found c)
 
 stored : (c : tie.Joined1 Inv-loop μ-loop) →
     let loop = c .before .before .before .before .before .before .before .loop in
@@ -95,7 +95,7 @@ returns c =
     let loop = c .before .before .before .before .before .loop in
     let test = c .before .before .before .before .loop-test in
     let at-call = c .before .before in
-    reading-cut (now (args .body)) (loop .ids) (loop .at) (loop .k) (loop .inv) (test .taken) (rw (c .enum-told .given .1) at (inner at-call))
+    reading-cut (now (args .body)) (now (args .ids)) (loop .ids) (loop .at) (loop .k) (c .before .before .before .before .before .before .before .pre) (loop .inv) (test .taken) (rw (c .enum-told .given .1) at (inner at-call))
 
 mul-ids : tie.Need-mul-ids Inv-loop μ-loop
 mul-ids c = search needs
@@ -129,7 +129,7 @@ returns-2 : tie.Need-returns-2 Inv-loop μ-loop
 returns-2 c =
     let args = c .before .before .before .args in
     let loop = c .before .loop in
-    reading-end (now (args .body)) (loop .ids) (loop .at) (loop .k) (loop .inv) (c .loop-test .left)
+    reading-end (now (args .body)) (now (args .ids)) (loop .ids) (loop .at) (loop .k) (c .before .before .before .pre) (loop .inv) (c .loop-test .left)
 
 pub read-ids-spec : {M : Type 1} → statement M
 read-ids-spec =

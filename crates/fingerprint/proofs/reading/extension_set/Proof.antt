@@ -1,4 +1,4 @@
-use mathlib.Core.Path.{ap, _∙_, subst}
+use mathlib.Core.Path.{refl, ap, _∙_, subst}
 use Rattle.fingerprint_lists.specs.Arrays.{typesOf}
 use Rattle.fingerprint.specs.Code.{HeadAs, HeadFound, Surveyed}
 use Rattle.fingerprint.specs.declared.head.Head.{Head}
@@ -11,7 +11,7 @@ use Rattle.fingerprint.proofs.reading.extension_set.Tie as tie
 head : (c : tie.After-known-told) → HeadFound (c .before .before .before .before .before .args .hello .now) (c .before .block .given .0 .0) (c .before .block .given .0 .1 .0) (c .before .block .given .0 .1 .1 .0)
 head c = subst (λ (x : Head). HeadAs x (c .before .before .before .before .before .args .hello .now)) (c .before .block .given .1) (c .before .before .before .read-head .ensures)
 
-surveyed : (c : tie.Else1) → Surveyed (c .before .before .before .before .before .before .before .before .args .hello .now) (c .before .before .before .before .block .given .0 .1 .1 .0) (c .before .before .survey-block .result)
+surveyed : (c : tie.Else1) → Surveyed (c .before .before .before .before .before .before .before .before .before .args .hello .now) (c .before .before .before .before .before .block .given .0 .1 .1 .0) (c .before .before .survey-block .result) (c .before .before .survey-block .last .1 .1 .0)
 surveyed c = (c .before .before .survey-block .ensures .accepted) (c .if1 .left)
 
 read-head-requires : tie.Need-read-head-requires
@@ -32,24 +32,24 @@ returns c =
     (c .no-types .ensures) ∙ ap typesOf (set-refused e)
 
 survey-block-requires : tie.Need-survey-block-requires
-survey-block-requires c κs = ((head c) .inside, (head c) .short)
+survey-block-requires c κs = (head (c .before) .inside, head (c .before) .short, refl)
 
 no-types-requires-2 : tie.Need-no-types-requires-2
 no-types-requires-2 c κs = search needs
 
 returns-2 : tie.Need-returns-2
 returns-2 c =
-    let e = read-refused (head (c .before .before .before .before)) (c .before .before .before .survey-block .result .number) ((c .before .before .before .survey-block .ensures .refuses) (omega (arith, (c .before .if1 .taken)))) in
+    let e = read-refused (head (c .before .before .before .before .before)) (c .before .before .before .survey-block .result .number) ((c .before .before .before .survey-block .ensures .refuses) (omega (arith, (c .before .if1 .taken)))) in
     (c .no-types2 .ensures) ∙ ap typesOf (set-refused e)
 
 sorted-requires : tie.Need-sorted-requires
 sorted-requires c κs = (
-  few-types (head (c .before .before .before .before)) (surveyed (c .before)),
-  length-types (head (c .before .before .before .before)) (surveyed (c .before)),
+  few-types (head (c .before .before .before .before .before)) (surveyed (c .before)),
+  length-types (head (c .before .before .before .before .before)) (surveyed (c .before)),
 )
 
 returns-3 : tie.Need-returns-3
-returns-3 c = (c .sorted .ensures) ∙ ap typesOf (set-result (head (c .before .before .before .before .before)) (surveyed (c .before .before)))
+returns-3 c = (c .sorted .ensures) ∙ ap typesOf (set-result (head (c .before .before .before .before .before .before)) (surveyed (c .before .before)))
 
 pub extension-set-spec : {M : Type 1} → statement M
 extension-set-spec =

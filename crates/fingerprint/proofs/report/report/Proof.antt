@@ -2,12 +2,12 @@ use mathlib.Core.Path.{ap, _∙_}
 use Prim.Native.Nat.{ℕ, _+_}
 use mathlib.Core.List.{List, map}
 use Rattle.fingerprint_bodies.specs.Entries.{orEmpty}
-use Rattle.fingerprint_bodies.specs.Body.{name, groups, algorithms, protocols, versions, shares, parameters}
-use Rattle.fingerprint_bodies.specs.Forms.{wordsIn, wordList, protocolNames, keyShares, transportParameters, groupOf, idOf}
-use Rattle.fingerprint_lists.specs.Arrays.{wordsOf, groupsOf, idsOf, spansOf, placed}
+use Rattle.fingerprint_bodies.specs.Body.{name, groups, algorithms, protocols, versions, shares}
+use Rattle.fingerprint_bodies.specs.Forms.{wordsIn, wordList, protocolNames, keyShares, groupOf}
+use Rattle.fingerprint_lists.specs.Arrays.{wordsOf, groupsOf, spansOf, placed}
 use Rattle.fingerprint.specs.Code.{noteOf}
 use Rattle.fingerprint.proofs.NameLaws.{length-part-of}
-use Rattle.fingerprint.proofs.ReportLaws.{length-note, good-groups, good-algorithms, good-protocols, good-versions, good-shares, good-ids, report-shown}
+use Rattle.fingerprint.proofs.ReportLaws.{length-note, good-groups, good-algorithms, good-protocols, good-versions, good-shares, report-shown}
 use native.Mathlib.Omega.{arith}
 use borrow.Author.Needs.{needs}
 use Rattle.fingerprint.proofs.report.report.Statement.{statement}
@@ -68,27 +68,17 @@ protocol-names-requires c κs =
     let p = (c .before .before .before .before .before .before .before .before .before .before .before .before .before .before .before .before .before .before .pre) in
     rw (c .part6 .ensures) (good-protocols p, omega (arith, length-note p protocols, p .inside protocols, p .short))
 
-array-copy-out-at-parameters : tie.Need-array-copy-out-at-parameters
-array-copy-out-at-parameters c = search needs
-
-part-requires-7 : tie.Need-part-requires-7
-part-requires-7 c κs = (c .before .before .before .before .before .before .before .before .before .before .before .before .before .before .before .before .before .before .before .before .pre .inside) parameters
-
-parameter-ids-requires : tie.Need-parameter-ids-requires
-parameter-ids-requires c κs = rw (c .part7 .ensures) (good-ids (c .before .before .before .before .before .before .before .before .before .before .before .before .before .before .before .before .before .before .before .before .before .pre))
-
 array-copy-out-name-in : tie.Need-array-copy-out-name-in
 array-copy-out-name-in c = search needs
 
 name-in-requires : tie.Need-name-in-requires
 name-in-requires c κs =
-    let p = (c .before .before .before .before .before .before .before .before .before .before .before .before .before .before .before .before .before .before .before .before .before .before .before .before .before .before .before .before .before .before .before .pre) in
+    let p = (c .before .before .before .before .before .before .before .before .before .before .before .before .before .before .before .before .before .before .before .before .before .before .before .before .before .before .before .pre) in
     omega (arith, p .inside name, p .short)
 
 returns : tie.Need-returns
 returns c =
-    let ids = (c .before .before .before .before .before .before .before .before .before .before) in
-    let names = ids .before .before .before in
+    let names = c .before .before .before .before .before .before .before .before .before in
     let versions = names .before .before .before in
     let algorithms = versions .before .before .before in
     let shares = algorithms .before .before .before in
@@ -105,15 +95,13 @@ returns c =
           (versions .word-list2 .result)
           (names .protocol-names .result)
           (c .name-in .result)
-          (ids .parameter-ids .result)
           (suites .words-in .ensures ∙ ap (λ (b : List ℕ). wordsOf (wordsIn b)) (suites .before .part .ensures))
           (groups .group-list .ensures ∙ ap (λ (b : List ℕ). groupsOf (orEmpty (wordList 2 b))) (groups .before .part2 .ensures))
           (shares .key-share-groups .ensures ∙ ap (λ (b : List ℕ). groupsOf (map groupOf (orEmpty (keyShares b)))) (shares .before .part3 .ensures))
           (algorithms .word-list .ensures ∙ ap (λ (b : List ℕ). wordsOf (orEmpty (wordList 2 b))) (algorithms .before .part4 .ensures))
           (versions .word-list2 .ensures ∙ ap (λ (b : List ℕ). wordsOf (orEmpty (wordList 1 b))) (versions .before .part5 .ensures))
           (names .protocol-names .ensures ∙ ap (λ (b : List ℕ). spansOf (placed (at + 2) (orEmpty (protocolNames b)))) (names .before .part6 .ensures))
-          (c .name-in .ensures)
-          (ids .parameter-ids .ensures ∙ ap (λ (b : List ℕ). idsOf (map idOf (orEmpty (transportParameters b)))) (ids .before .part7 .ensures));
+          (c .name-in .ensures);
     }
 
 pub report-spec : {M : Type 1} → statement M
@@ -137,9 +125,6 @@ report-spec =
     array-copy-out-at-protocols
     part-requires-6
     protocol-names-requires
-    array-copy-out-at-parameters
-    part-requires-7
-    parameter-ids-requires
     array-copy-out-name-in
     name-in-requires
     returns)

@@ -1,10 +1,12 @@
 -- `ask_body` goes by the type, as `kind` does, and asks what the reader of that kind asks. Assumes nothing.
 use Prim.Native.Nat.{ℕ}
-use mathlib.Core.Path.{sym, ap, _∙_}
-use Rattle.fingerprint_bodies.specs.Body.{Kind, kind}
-use Rattle.fingerprint_bodies.specs.Code.{asked}
+use mathlib.Core.Path.{refl, sym, _∙_, subst}
+use denote.Ref.{now}
+use Rattle.fingerprint_bodies.specs.Body.{Kind, name, groups, algorithms, protocols, versions, shares, other, kind}
 use Rattle.fingerprint_bodies.proofs.AskLaws.{asked-name, asked-groups, asked-algorithms, asked-protocols, asked-versions, asked-shares, asked-other}
+use Rattle.fingerprint.specs.Code.{BodyAsked}
 use Rattle.fingerprint.proofs.KindLaws.{kind-other}
+use Rattle.fingerprint.proofs.IdLaws.{body-without, body-parameters}
 use borrow.Author.Needs.{needs}
 use Rattle.fingerprint.proofs.walk.ask_body.Statement.{statement}
 use Rattle.fingerprint.proofs.walk.ask_body.Tie as tie
@@ -12,66 +14,120 @@ use Rattle.fingerprint.proofs.walk.ask_body.Tie as tie
 ask-name-requires : tie.Need-ask-name-requires
 ask-name-requires c κs = search needs
 
+without-ids-requires : tie.Need-without-ids-requires
+without-ids-requires c κs = search needs
+
 ask-words-requires : tie.Need-ask-words-requires
 ask-words-requires c κs = search needs
+
+without-ids-requires-2 : tie.Need-without-ids-requires-2
+without-ids-requires-2 c κs = search needs
 
 ask-words-requires-2 : tie.Need-ask-words-requires-2
 ask-words-requires-2 c κs = search needs
 
+without-ids-requires-3 : tie.Need-without-ids-requires-3
+without-ids-requires-3 c κs = search needs
+
 ask-protocols-requires : tie.Need-ask-protocols-requires
 ask-protocols-requires c κs = search needs
+
+without-ids-requires-4 : tie.Need-without-ids-requires-4
+without-ids-requires-4 c κs = search needs
 
 ask-words-requires-3 : tie.Need-ask-words-requires-3
 ask-words-requires-3 c κs = search needs
 
+without-ids-requires-5 : tie.Need-without-ids-requires-5
+without-ids-requires-5 c κs = search needs
+
 ask-shares-requires : tie.Need-ask-shares-requires
 ask-shares-requires c κs = search needs
+
+without-ids-requires-6 : tie.Need-without-ids-requires-6
+without-ids-requires-6 c κs = search needs
 
 ask-parameters-requires : tie.Need-ask-parameters-requires
 ask-parameters-requires c κs = search needs
 
+without-ids-requires-7 : tie.Need-without-ids-requires-7
+without-ids-requires-7 c κs = search needs
+
 returns : tie.Need-returns
 unfolding kind
-returns c = (c .ask-name .ensures) ∙ sym (asked-name (c .before .before .before .args .body .now)) ∙ ap (λ (t : ℕ). asked (kind t) (c .before .before .before .args .body .now)) (sym (c .before .match .keys1))
+returns c =
+    let args = c .before .before .before .before .args in
+    subst (λ (t : ℕ). BodyAsked (kind t) (now (args .body)) (c .without-ids .result) (now (args .ids)) (now (args .ids))) (sym (c .before .before .match .keys1))
+    (body-without name (now (args .body)) (now (args .ids)) _ _ (c .without-ids .ensures) (c .before .ask-name .ensures ∙ sym (asked-name (now (args .body)))) refl (c .before .before .before .before .pre))
 
 returns-2 : tie.Need-returns-2
 unfolding kind
-returns-2 c = (c .ask-words .ensures) ∙ sym (asked-groups (c .before .before .before .args .body .now)) ∙ ap (λ (t : ℕ). asked (kind t) (c .before .before .before .args .body .now)) (sym (c .before .match .keys2))
+returns-2 c =
+    let args = c .before .before .before .before .args in
+    subst (λ (t : ℕ). BodyAsked (kind t) (now (args .body)) (c .without-ids2 .result) (now (args .ids)) (now (args .ids))) (sym (c .before .before .match .keys2))
+    (body-without groups (now (args .body)) (now (args .ids)) _ _ (c .without-ids2 .ensures) (c .before .ask-words .ensures ∙ sym (asked-groups (now (args .body)))) refl (c .before .before .before .before .pre))
 
 returns-3 : tie.Need-returns-3
 unfolding kind
-returns-3 c = (c .ask-words2 .ensures) ∙ sym (asked-algorithms (c .before .before .before .args .body .now)) ∙ ap (λ (t : ℕ). asked (kind t) (c .before .before .before .args .body .now)) (sym (c .before .match .keys3))
+returns-3 c =
+    let args = c .before .before .before .before .args in
+    subst (λ (t : ℕ). BodyAsked (kind t) (now (args .body)) (c .without-ids3 .result) (now (args .ids)) (now (args .ids))) (sym (c .before .before .match .keys3))
+    (body-without algorithms (now (args .body)) (now (args .ids)) _ _ (c .without-ids3 .ensures) (c .before .ask-words2 .ensures ∙ sym (asked-algorithms (now (args .body)))) refl (c .before .before .before .before .pre))
 
 returns-4 : tie.Need-returns-4
 unfolding kind
-returns-4 c = (c .ask-protocols .ensures) ∙ sym (asked-protocols (c .before .before .before .args .body .now)) ∙ ap (λ (t : ℕ). asked (kind t) (c .before .before .before .args .body .now)) (sym (c .before .match .keys4))
+returns-4 c =
+    let args = c .before .before .before .before .args in
+    subst (λ (t : ℕ). BodyAsked (kind t) (now (args .body)) (c .without-ids4 .result) (now (args .ids)) (now (args .ids))) (sym (c .before .before .match .keys4))
+    (body-without protocols (now (args .body)) (now (args .ids)) _ _ (c .without-ids4 .ensures) (c .before .ask-protocols .ensures ∙ sym (asked-protocols (now (args .body)))) refl (c .before .before .before .before .pre))
 
 returns-5 : tie.Need-returns-5
 unfolding kind
-returns-5 c = (c .ask-words3 .ensures) ∙ sym (asked-versions (c .before .before .before .args .body .now)) ∙ ap (λ (t : ℕ). asked (kind t) (c .before .before .before .args .body .now)) (sym (c .before .match .keys5))
+returns-5 c =
+    let args = c .before .before .before .before .args in
+    subst (λ (t : ℕ). BodyAsked (kind t) (now (args .body)) (c .without-ids5 .result) (now (args .ids)) (now (args .ids))) (sym (c .before .before .match .keys5))
+    (body-without versions (now (args .body)) (now (args .ids)) _ _ (c .without-ids5 .ensures) (c .before .ask-words3 .ensures ∙ sym (asked-versions (now (args .body)))) refl (c .before .before .before .before .pre))
 
 returns-6 : tie.Need-returns-6
 unfolding kind
-returns-6 c = (c .ask-shares .ensures) ∙ sym (asked-shares (c .before .before .before .args .body .now)) ∙ ap (λ (t : ℕ). asked (kind t) (c .before .before .before .args .body .now)) (sym (c .before .match .keys6))
+returns-6 c =
+    let args = c .before .before .before .before .args in
+    subst (λ (t : ℕ). BodyAsked (kind t) (now (args .body)) (c .without-ids6 .result) (now (args .ids)) (now (args .ids))) (sym (c .before .before .match .keys6))
+    (body-without shares (now (args .body)) (now (args .ids)) _ _ (c .without-ids6 .ensures) (c .before .ask-shares .ensures ∙ sym (asked-shares (now (args .body)))) refl (c .before .before .before .before .pre))
 
 returns-7 : tie.Need-returns-7
 unfolding kind
-returns-7 c = (c .ask-parameters .ensures) ∙ ap (λ (t : ℕ). asked (kind t) (c .before .before .before .args .body .now)) (sym (c .before .match .keys7))
+returns-7 c =
+    let args = c .before .before .before .before .args in
+    subst (λ (t : ℕ). BodyAsked (kind t) (now (args .body)) (c .ask-parameters .result) (now (args .ids)) (c .ask-parameters .last .1 .0)) (sym (c .before .before .match .keys7))
+    (body-parameters (now (args .body)) _ _ _ (c .ask-parameters .ensures))
 
 returns-8 : tie.Need-returns-8
-returns-8 c = sym (asked-other (c .before .before .args .body .now)) ∙ ap (λ (k : Kind). asked k (c .before .before .args .body .now)) (sym (kind-other (c .before .before .args .t) (c .match .rest .0 .0 .0 .0 .0 .0 .1) (c .match .rest .0 .0 .0 .0 .0 .1) (c .match .rest .0 .0 .0 .0 .1) (c .match .rest .0 .0 .0 .1) (c .match .rest .0 .0 .1) (c .match .rest .0 .1) (c .match .rest .1)))
+returns-8 c =
+    let args = c .before .before .before .args in
+    let rest = c .before .match .rest in
+    subst (λ (k : Kind). BodyAsked k (now (args .body)) (c .without-ids7 .result) (now (args .ids)) (now (args .ids)))
+    (sym (kind-other (args .t) (rest .0 .0 .0 .0 .0 .0 .1) (rest .0 .0 .0 .0 .0 .1) (rest .0 .0 .0 .0 .1) (rest .0 .0 .0 .1) (rest .0 .0 .1) (rest .0 .1) (rest .1)))
+    (body-without other (now (args .body)) (now (args .ids)) _ _ (c .without-ids7 .ensures) (sym (asked-other (now (args .body)))) refl (c .before .before .before .pre))
 
 pub ask-body-spec : {M : Type 1} → statement M
 ask-body-spec =
     tie.close
     (tie.spec
     ask-name-requires
+    without-ids-requires
     ask-words-requires
+    without-ids-requires-2
     ask-words-requires-2
+    without-ids-requires-3
     ask-protocols-requires
+    without-ids-requires-4
     ask-words-requires-3
+    without-ids-requires-5
     ask-shares-requires
+    without-ids-requires-6
     ask-parameters-requires
+    without-ids-requires-7
     returns
     returns-2
     returns-3

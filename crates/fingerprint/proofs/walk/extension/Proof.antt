@@ -1,30 +1,46 @@
 -- `extension` asks the questions in the order of `askBody`. Assumes nothing.
-use Prim.Native.Nat.{_-_}
+use Prim.Native.Nat.{ℕ, _-_}
 use mathlib.Core.Path.{_≡_, sym, _∙_, subst}
 use mathlib.Core.Bool.{false}
+use mathlib.Core.List.{List}
 use lib.ListN.{length, take, drop}
 use lib.Seq.{length-take-le}
 use Rattle.wire.specs.Sums.{member}
 use Rattle.fingerprint_bodies.specs.Body.{kind}
 use Rattle.fingerprint.specs.Code.{HeaderFound, HeaderAs}
-use Rattle.fingerprint.specs.declared.walk.Step.{Step}
+use Rattle.fingerprint.specs.declared.walk.Header.{Header}
 use Rattle.fingerprint.proofs.StepLaws.{step-cut, step-known, step-bad, step-full, step-found, asked-small}
+use denote.Ref.{now}
 use native.Mathlib.Omega.{arith}
 use borrow.Author.Needs.{needs}
 use Rattle.fingerprint.proofs.walk.extension.Statement.{statement}
 use Rattle.fingerprint.proofs.walk.extension.Tie as tie
 
-found : (c : tie.After-known-told) → HeaderFound (c .before .before .before .before .before .args .hello .now) (c .before .before .before .before .before .args .at) (c .before .t .given .0 .0) (c .before .t .given .0 .1 .0) (c .before .t .given .0 .1 .1 .0)
-found c = subst (λ (x : Step). HeaderAs x (c .before .before .before .before .before .args .hello .now) (c .before .before .before .before .before .args .at)) (c .before .t .given .1) (c .before .before .before .header .ensures)
+found : (c : tie.After-known-told) →
+    let args = c .before .before .before .before .before .args in
+    let given = c .before .t .given .0 in
+    HeaderFound (now (args .hello)) (args .at) (given .0) (given .1 .0) (given .1 .1 .0)
+found c =
+    let args = c .before .before .before .before .before .args in
+    subst (λ (x : Header). HeaderAs x (now (args .hello)) (args .at)) (c .before .t .given .1) (c .before .before .before .read-header .ensures)
 
-count-is : (c : tie.After-known-told) → length (take (c .before .before .before .before .before .args .count) (c .before .before .before .before .before .args .known .now)) ≡ (c .before .before .before .before .before .args .count)
-count-is c = length-take-le (c .before .before .before .before .before .args .count) (c .before .before .before .before .before .args .known .now) (omega (arith, (c .before .before .before .before .before .pre .2), (c .before .before .before .before .before .pre .3)))
+-- the types before this one
+abbrev types : (c : tie.After-known-told) → List ℕ
+types c =
+    let args = c .before .before .before .before .before .args in
+    take (args .count) (now (args .known))
 
-new : (c : tie.Else1) → member (c .before .before .before .t .given .0 .0) (take (c .before .before .before .before .before .before .before .args .count) (c .before .before .before .before .before .before .before .args .known .now)) ≡ false
-new c = sym (c .before .is-known .ensures) ∙ (c .if1 .left)
+count-is : (c : tie.After-known-told) → length (types c) ≡ c .before .before .before .before .before .args .count
+count-is c =
+    let args = c .before .before .before .before .before .args in
+    let pre = c .before .before .before .before .before .pre in
+    length-take-le (args .count) (now (args .known)) (omega (arith, pre .2, pre .3))
 
-header-requires : tie.Need-header-requires
-header-requires c κs = search needs
+new : (c : tie.Else1) → member (c .before .before .before .t .given .0 .0) (types (c .before .before)) ≡ false
+new c = sym (c .before .is-known .ensures) ∙ c .if1 .left
+
+read-header-requires : tie.Need-read-header-requires
+read-header-requires c κs = search needs
 
 enum-known-t : tie.Need-enum-known-t
 enum-known-t c = search needs
@@ -34,17 +50,17 @@ enum-told c = search needs
 
 returns : tie.Need-returns
 returns c =
-    let cut = subst (λ (x : Step). HeaderAs x (c .before .before .before .before .args .hello .now) (c .before .before .before .before .args .at)) (c .enum-told .given .1) (c .before .before .header .ensures) in
-    (λ done e. step-cut done (drop (c .before .before .before .before .args .at) (c .before .before .before .before .args .hello .now)) cut, (omega arith, omega arith))
+    let args = c .before .before .before .before .args in
+    let cut = subst (λ (x : Header). HeaderAs x (now (args .hello)) (args .at)) (c .enum-told .given .1) (c .before .before .read-header .ensures) in
+    (λ done e. step-cut done (drop (args .at) (now (args .hello))) cut, (omega arith, omega arith))
 
 is-known-requires : tie.Need-is-known-requires
 is-known-requires c κs = search needs
 
 returns-2 : tie.Need-returns-2
-returns-2 c = (
-  step-known (found (c .before .before)) (take (c .before .before .before .before .before .before .before .args .count) (c .before .before .before .before .before .before .before .args .known .now)) (sym (c .before .is-known .ensures) ∙ (c .if1 .taken)),
-  (omega arith, omega arith),
-)
+returns-2 c =
+    let told = c .before .before in
+    (step-known (found told) (types told) (sym (c .before .is-known .ensures) ∙ c .if1 .taken), (omega arith, omega arith))
 
 sub-ask-body : tie.Need-sub-ask-body
 sub-ask-body c = (found (c .before .before)) .forward
@@ -60,25 +76,34 @@ ask-body-requires c κs = search needs
 
 returns-3 : tie.Need-returns-3
 returns-3 c =
-    let small = asked-small (kind (c .before .before .before .before .before .before .t .given .0 .0)) (take ((c .before .before .before .before .before .before .t .given .0 .1 .1 .0) - (c .before .before .before .before .before .before .t .given .0 .1 .0)) (drop (c .before .before .before .before .before .before .t .given .0 .1 .0) (c .before .before .before .before .before .before .before .before .before .before .args .hello .now))) in (
-      step-bad (found (c .before .before .before .before .before)) (take (c .before .before .before .before .before .before .before .before .before .before .args .count) (c .before .before .before .before .before .before .before .before .before .before .args .known .now)) (new (c .before .before .before)) (c .before .ask-body .result) (c .before .ask-body .ensures) (c .if2 .taken),
-      (omega (arith, (c .if2 .taken)), omega (arith, small, (c .before .ask-body .ensures))),
-    )
+    let told = c .before .before .before .before .before .before in
+    let given = told .before .t .given .0 in
+    let bytes : List ℕ = take (given .1 .1 .0 - given .1 .0) (drop (given .1 .0) (now (told .before .before .before .before .before .args .hello))) in
+    let asked = c .before .ask-body in
+    let small = asked-small (kind (given .0)) bytes in
+    (step-bad (found told) (types told) (new (c .before .before .before .before)) (asked .result .number) (asked .ensures .is) (c .if2 .taken), (omega (arith, c .if2 .taken), omega (arith, small, asked .ensures .is)))
 
 returns-4 : tie.Need-returns-4
-returns-4 c = (
-  step-full (found (c .before .before .before .before .before .before)) (take (c .before .before .before .before .before .before .before .before .before .before .before .args .count) (c .before .before .before .before .before .before .before .before .before .before .before .args .known .now)) (new (c .before .before .before .before)) (sym (c .before .before .ask-body .ensures) ∙ (c .before .if2 .left)) (omega (arith, count-is (c .before .before .before .before .before .before), (c .if3 .taken))),
-  (omega arith, omega arith),
-)
+returns-4 c =
+    let told = c .before .before .before .before .before .before .before in
+    let asked = c .before .before .ask-body in (
+      step-full (found told) (types told) (new (c .before .before .before .before .before)) (sym (asked .ensures .is) ∙ c .before .if2 .left) (omega (arith, count-is told, c .if3 .taken)),
+      (omega arith, omega arith),
+    )
 
 returns-5 : tie.Need-returns-5
-returns-5 c = step-found (found (c .before .before .before .before .before .before)) (take (c .before .before .before .before .before .before .before .before .before .before .before .args .count) (c .before .before .before .before .before .before .before .before .before .before .before .args .known .now)) (new (c .before .before .before .before)) (sym (c .before .before .ask-body .ensures) ∙ (c .before .if2 .left)) (omega (arith, count-is (c .before .before .before .before .before .before), (c .if3 .left)))
+returns-5 c =
+    let told = c .before .before .before .before .before .before .before in
+    let asked = c .before .before .ask-body in (
+      step-found (found told) (types told) (new (c .before .before .before .before .before)) (sym (asked .ensures .is) ∙ c .before .if2 .left) (omega (arith, count-is told, c .if3 .left)),
+      asked .ensures .gained (c .before .if2 .left),
+    )
 
 pub extension-spec : {M : Type 1} → statement M
 extension-spec =
     tie.close
     (tie.spec
-    header-requires
+    read-header-requires
     enum-known-t
     enum-told
     returns

@@ -2,12 +2,14 @@
 use Prim.Native.Nat.{ℕ, _-_, _<_}
 use mathlib.Core.Path.{sym, ap, _∙_, subst}
 use lib.ListN.{length, take}
+use denote.Ref.{now}
 use Rattle.wire.specs.Answer.{refused}
-use Rattle.fingerprint.specs.Code.{StepFound, StepAs, Walking}
 use Rattle.fingerprint_bodies.specs.Body.{kind}
+use Rattle.fingerprint.specs.Code.{StepAs, Walking}
 use Rattle.fingerprint.specs.declared.walk.Step.{Step}
 use Rattle.fingerprint.specs.declared.walk.Step.the-variants as step
 use Rattle.fingerprint.proofs.KindLaws.{slot-small}
+use Rattle.fingerprint.proofs.IdLaws.{few-gained, few-found}
 use Rattle.fingerprint.proofs.WalkLaws.{walking-start, walking-next, walking-stop, walking-end, known-long, known-marked, has-room}
 use borrow.Author.Needs.{needs}
 use native.Mathlib.Omega.{arith}
@@ -15,33 +17,37 @@ use Rattle.fingerprint.proofs.walk.survey_block.Statement.{statement}
 use Rattle.fingerprint.proofs.walk.survey_block.Tie as tie
 
 abbrev Inv-loop : tie.InvT-loop
-Inv-loop hello block n types₀ known₀ marks₀ bodies₀ count₀ at₀ types known marks bodies count at =
-    Walking hello block at count types known marks bodies
+Inv-loop hello block ids₀ n types₀ known₀ marks₀ bodies₀ count₀ id-count₀ at₀ ids types known marks bodies count id-count at =
+    Walking hello block at count types known marks bodies ids id-count
 
 abbrev μ-loop : tie.MeasureT-loop
-μ-loop hello block n types₀ known₀ marks₀ bodies₀ count₀ at₀ types known marks bodies count at =
+μ-loop hello block ids₀ n types₀ known₀ marks₀ bodies₀ count₀ id-count₀ at₀ ids types known marks bodies count id-count at =
     length hello - at
 
-found : (c : tie.After-known-told Inv-loop μ-loop) → StepFound (c .before .before .before .before .before .before .before .before .before .args .hello .now) (c .before .before .before .before .before .before .before .loop .at) (c .before .t .given .0 .0) (c .before .t .given .0 .1 .0) (c .before .t .given .0 .1 .1 .0) (take (c .before .before .before .before .before .before .before .loop .count) (c .before .before .before .before .before .before .before .loop .known))
-found c = subst (λ (x : Step). StepAs x (c .before .before .before .before .before .before .before .before .before .args .hello .now) (c .before .before .before .before .before .before .before .loop .at) (take (c .before .before .before .before .before .before .before .loop .count) (c .before .before .before .before .before .before .before .loop .known))) (c .before .t .given .1) (c .before .before .before .extension .ensures)
+found : (c : tie.After-known-told Inv-loop μ-loop) →
+    let h = now (c .before .before .before .before .before .before .before .before .before .before .args .hello) in
+    let l = c .before .before .before .before .before .before .before .before .loop in
+    let given = c .before .t .given .0 in
+    StepAs (step.Next (given .0) (given .1 .0) (given .1 .1 .0) (given .1 .1 .1 .0)) h (l .at) (take (l .count) (l .known)) (l .ids) (c .before .before .before .extension .last .1 .1 .1 .1 .1 .0)
+found c =
+    let h = now (c .before .before .before .before .before .before .before .before .before .before .args .hello) in
+    let l = c .before .before .before .before .before .before .before .before .loop in
+    let called = c .before .before .before .extension in
+    subst (λ (x : Step). StepAs x h (l .at) (take (l .count) (l .known)) (l .ids) (called .last .1 .1 .1 .1 .1 .0)) (c .before .t .given .1) (called .ensures)
 
-room : (c : tie.After-known-told Inv-loop μ-loop) → (c .before .before .before .before .before .before .before .loop .count) < 64
-room c = has-room (c .before .before .before .before .before .before .before .loop .inv) ((found c) .room)
+room : (c : tie.After-known-told Inv-loop μ-loop) → c .before .before .before .before .before .before .before .before .loop .count < 64
+room c = has-room (c .before .before .before .before .before .before .before .before .loop .inv) (found c .0 .room)
 
 loop-holds : tie.Need-loop-holds Inv-loop μ-loop
-loop-holds c = walking-start (c .before .args .hello .now) (c .before .args .block) (c .before .pre .0)
+loop-holds c =
+    let args = c .before .args in
+    let pre = c .before .pre in
+    rw (pre .2) (walking-start (now (args .hello)) (args .block) (pre .0))
 
 extension-requires : tie.Need-extension-requires Inv-loop μ-loop
 extension-requires c κs =
-    let l = (c .before .before .before .loop) in
-    let w = (c .before .before .before .loop .inv) in (
-      w .inside,
-      (c .before .before .before .before .before .pre .1),
-      omega (arith, w .count-is, w .few),
-      known-long w,
-      w .marks-long,
-      known-marked w,
-    )
+    let w = c .before .before .before .before .loop .inv in
+    (w .inside, c .before .before .before .before .before .before .pre .1, omega (arith, w .count-is, w .few), known-long w, w .marks-long, known-marked w, w .ids-long)
 
 enum-known-t : tie.Need-enum-known-t Inv-loop μ-loop
 enum-known-t c = search needs
@@ -62,33 +68,38 @@ mark-requires : tie.Need-mark-requires Inv-loop μ-loop
 mark-requires c κs = search needs
 
 array-write-marks : tie.Need-array-write-marks Inv-loop μ-loop
-array-write-marks c = omega (arith, (c .mark .ensures))
+array-write-marks c = omega (arith, c .mark .ensures)
 
-sub-t21 : tie.Need-sub-t21 Inv-loop μ-loop
-sub-t21 c = (found (c .before)) .forward
+sub-t25 : tie.Need-sub-t25 Inv-loop μ-loop
+sub-t25 c = found (c .before) .0 .forward
 
 slot-requires : tie.Need-slot-requires Inv-loop μ-loop
 slot-requires c κs = search needs
 
 mul-bodies : tie.Need-mul-bodies Inv-loop μ-loop
-mul-bodies c = omega (arith, (c .slot .ensures), slot-small (kind (c .before .before .before .t .given .0 .0)))
+mul-bodies c = omega (arith, c .slot .ensures, slot-small (kind (c .before .before .before .t .given .0 .0)))
 
 array-set-from-bodies : tie.Need-array-set-from-bodies Inv-loop μ-loop
-array-set-from-bodies c = omega (arith, (c .slot .ensures), slot-small (kind (c .before .before .before .t .given .0 .0)))
+array-set-from-bodies c = omega (arith, c .slot .ensures, slot-small (kind (c .before .before .before .t .given .0 .0)))
 
 add-count : tie.Need-add-count Inv-loop μ-loop
 add-count c = omega (arith, room (c .before .before))
 
+add-id-count : tie.Need-add-id-count Inv-loop μ-loop
+add-id-count c =
+    let w = c .before .before .before .before .before .before .before .before .before .before .loop .inv in
+    omega (arith, few-gained (found (c .before .before) .1), few-found (w .ids-are) (w .ids-long))
+
 loop-less : tie.Need-loop-less Inv-loop μ-loop
 loop-less c =
-    let s = found (c .before .before) in
-    omega (arith, s .after-header, s .forward, s .inside, (c .before .before .before .before .before .before .before .before .loop-test .taken))
+    let s = found (c .before .before) .0 in
+    omega (arith, s .after-header, s .forward, s .inside, c .before .before .before .before .before .before .before .before .before .loop-test .taken)
 
 loop-again : tie.Need-loop-again Inv-loop μ-loop
 loop-again c =
-    let l = (c .before .before .before .before .before .before .before .before .before .loop) in
-    walking-next (l .inv) (c .before .mark .ensures) (c .slot .ensures)
-    (λ i. ((c .before .before .before .before .before .before .before .before .before .before .shared-slice-known .given) i) .fits) (c .before .before .before .before .before .before .before .before .loop-test .taken) (found (c .before .before))
+    let w = c .before .before .before .before .before .before .before .before .before .before .loop .inv in
+    let s = found (c .before .before) in
+    walking-next w (c .before .mark .ensures) (c .slot .ensures) (λ i. c .before .before .before .before .before .before .before .before .before .before .before .shared-slice-known .given i .fits) (c .before .before .before .before .before .before .before .before .before .loop-test .taken) (s .0) (s .1)
 
 enum-known-number : tie.Need-enum-known-number Inv-loop μ-loop
 enum-known-number c = search needs
@@ -98,20 +109,22 @@ refused-requires c κs = search needs
 
 returns : tie.Need-returns Inv-loop μ-loop
 returns c =
-    let l = (c .before .before .before .before .before .before .before .before .loop) in
-    let n = (c .before .before .number .given .0 .0) in
-    let s : StepAs (step.Refused n) (c .before .before .before .before .before .before .before .before .before .before .args .hello .now) (l .at) (take (l .count) (l .known)) = subst (λ (x : Step). StepAs x (c .before .before .before .before .before .before .before .before .before .before .args .hello .now) (l .at) (take (l .count) (l .known))) (c .before .before .number .given .1) (c .before .before .before .before .extension .ensures) in
+    let h = now (c .before .before .before .before .before .before .before .before .before .before .before .args .hello) in
+    let l = c .before .before .before .before .before .before .before .before .before .loop in
+    let n = c .before .before .number .given .0 .0 in
+    let called = c .before .before .before .before .extension in
+    let s : StepAs (step.Refused n) h (l .at) (take (l .count) (l .known)) (l .ids) (called .last .1 .1 .1 .1 .1 .0) =
+    subst (λ (x : Step). StepAs x h (l .at) (take (l .count) (l .known)) (l .ids) (called .last .1 .1 .1 .1 .1 .0)) (c .before .before .number .given .1) (called .ensures) in
     record {
-      accepted = λ z. absurd (omega (arith, z, (c .refused .ensures), s .1 .0));
-      refuses = λ z. walking-stop (l .inv) n (c .before .before .before .before .before .before .before .loop-test .taken) (s .0) ∙ ap (λ (k : ℕ). refused k) (sym (c .refused .ensures));
-      bound = omega (arith, (c .refused .ensures), s .1 .1);
+      accepted = λ z. absurd (omega (arith, z, c .refused .ensures, s .1 .0));
+      refuses = λ z. walking-stop (l .inv) n (c .before .before .before .before .before .before .before .before .loop-test .taken) (s .0) ∙ ap (λ (k : ℕ). refused k) (sym (c .refused .ensures));
+      bound = omega (arith, c .refused .ensures, s .1 .1);
     }
 
 returns-2 : tie.Need-returns-2 Inv-loop μ-loop
 returns-2 c =
-    let l = (c .before .loop) in
     record {
-      accepted = λ z. walking-end (l .inv) (c .loop-test .left);
+      accepted = λ z. walking-end (c .before .loop .inv) (c .loop-test .left);
       refuses = λ z. absurd (omega arith);
       bound = omega arith;
     }
@@ -131,11 +144,12 @@ survey-block-spec =
     array-write-known
     mark-requires
     array-write-marks
-    sub-t21
+    sub-t25
     slot-requires
     mul-bodies
     array-set-from-bodies
     add-count
+    add-id-count
     loop-less
     loop-again
     enum-known-number

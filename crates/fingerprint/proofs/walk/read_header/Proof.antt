@@ -1,4 +1,4 @@
--- `header` reads type and length where both are there, and then asks whether the body is. Assumes nothing.
+-- `read_header` reads type and length where both are there, and then asks whether the body is. Assumes nothing.
 use Prim.Native.Nat.{ℕ, _+_}
 use mathlib.Core.Path.{ap, _∙_}
 use mathlib.Core.List.{List}
@@ -7,8 +7,8 @@ use Rattle.wire.specs.Numbers.{number}
 use Rattle.wire.proofs.ListLaws.{part-to-end}
 use Rattle.fingerprint.proofs.StepLaws.{head-short, head-long, head-found}
 use borrow.Author.Needs.{needs}
-use Rattle.fingerprint.proofs.walk.header.Statement.{statement}
-use Rattle.fingerprint.proofs.walk.header.Tie as tie
+use Rattle.fingerprint.proofs.walk.read_header.Statement.{statement}
+use Rattle.fingerprint.proofs.walk.read_header.Tie as tie
 
 sub-if1 : tie.Need-sub-if1
 sub-if1 c = search needs
@@ -61,8 +61,8 @@ add-t6 c = search needs
 returns-3 : tie.Need-returns-3
 returns-3 c = head-found (c .before .before .before .before .before .before .before .args .hello .now) (c .before .before .before .before .before .before .before .args .at) (c .before .before .before .be16 .result) (c .before .before .before .before .before .if1 .left) ((c .before .before .before .be16 .ensures) ∙ ap (λ (s : List ℕ). number 256 (take 2 s)) (part-to-end (c .before .before .before .before .before .before .before .args .hello .now) ((c .before .before .before .before .before .before .before .args .at) + 2))) (c .be162 .result) ((c .be162 .ensures) ∙ ap (λ (s : List ℕ). number 256 (take 2 s)) (part-to-end (c .before .before .before .before .before .before .before .args .hello .now) (c .before .before .before .before .before .before .before .args .at))) (c .before .before .if2 .left)
 
-pub header-spec : {M : Type 1} → statement M
-header-spec =
+pub read-header-spec : {M : Type 1} → statement M
+read-header-spec =
     tie.close
     (tie.spec
     sub-if1
