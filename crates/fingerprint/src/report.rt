@@ -77,14 +77,10 @@ pub fn report(
 {
     let bodies = found.bodies;
     let suite_list = fingerprint_lists::words_in(part(hello, suites));
-    let at_groups = bodies[1];
-    let groups = fingerprint_lists::group_list(part(hello, at_groups));
-    let at_shares = bodies[5];
-    let shares = fingerprint_lists::key_share_groups(part(hello, at_shares));
-    let at_algorithms = bodies[2];
-    let algorithms = fingerprint_lists::word_list(part(hello, at_algorithms), 2);
-    let at_versions = bodies[4];
-    let versions = fingerprint_lists::word_list(part(hello, at_versions), 1);
+    let groups = fingerprint_lists::group_list(part(hello, bodies[1]));
+    let shares = fingerprint_lists::key_share_groups(part(hello, bodies[5]));
+    let algorithms = fingerprint_lists::word_list(part(hello, bodies[2]), 2);
+    let versions = fingerprint_lists::word_list(part(hello, bodies[4]), 1);
     let at_protocols = bodies[3];
     let alpn = fingerprint_lists::protocol_names(part(hello, at_protocols), at_protocols.start);
     let types = found.types;

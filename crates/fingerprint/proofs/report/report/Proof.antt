@@ -21,8 +21,8 @@ words-in-requires c κs =
     let s = (c .before .before .before) in
     rw (c .part .ensures) (omega (arith, length-part-of (s .args .hello .now) (s .args .suites) (s .pre .suites-inside), s .pre .suites-few))
 
-array-copy-out-at-groups : tie.Need-array-copy-out-at-groups
-array-copy-out-at-groups c = search needs
+array-copy-out-part : tie.Need-array-copy-out-part
+array-copy-out-part c = search needs
 
 part-requires-2 : tie.Need-part-requires-2
 part-requires-2 c κs = (c .before .before .before .before .before .pre .inside) groups
@@ -30,8 +30,8 @@ part-requires-2 c κs = (c .before .before .before .before .before .pre .inside)
 group-list-requires : tie.Need-group-list-requires
 group-list-requires c κs = rw (c .part2 .ensures) (good-groups (c .before .before .before .before .before .before .pre))
 
-array-copy-out-at-shares : tie.Need-array-copy-out-at-shares
-array-copy-out-at-shares c = search needs
+array-copy-out-part-2 : tie.Need-array-copy-out-part-2
+array-copy-out-part-2 c = search needs
 
 part-requires-3 : tie.Need-part-requires-3
 part-requires-3 c κs = (c .before .before .before .before .before .before .before .before .pre .inside) shares
@@ -39,8 +39,8 @@ part-requires-3 c κs = (c .before .before .before .before .before .before .befo
 key-share-groups-requires : tie.Need-key-share-groups-requires
 key-share-groups-requires c κs = rw (c .part3 .ensures) (good-shares (c .before .before .before .before .before .before .before .before .before .pre))
 
-array-copy-out-at-algorithms : tie.Need-array-copy-out-at-algorithms
-array-copy-out-at-algorithms c = search needs
+array-copy-out-part-3 : tie.Need-array-copy-out-part-3
+array-copy-out-part-3 c = search needs
 
 part-requires-4 : tie.Need-part-requires-4
 part-requires-4 c κs = (c .before .before .before .before .before .before .before .before .before .before .before .pre .inside) algorithms
@@ -48,8 +48,8 @@ part-requires-4 c κs = (c .before .before .before .before .before .before .befo
 word-list-requires : tie.Need-word-list-requires
 word-list-requires c κs = rw (c .part4 .ensures) (omega arith, omega arith, good-algorithms (c .before .before .before .before .before .before .before .before .before .before .before .before .pre))
 
-array-copy-out-at-versions : tie.Need-array-copy-out-at-versions
-array-copy-out-at-versions c = search needs
+array-copy-out-part-4 : tie.Need-array-copy-out-part-4
+array-copy-out-part-4 c = search needs
 
 part-requires-5 : tie.Need-part-requires-5
 part-requires-5 c κs = (c .before .before .before .before .before .before .before .before .before .before .before .before .before .before .pre .inside) versions
@@ -110,16 +110,16 @@ report-spec =
     (tie.spec
     part-requires
     words-in-requires
-    array-copy-out-at-groups
+    array-copy-out-part
     part-requires-2
     group-list-requires
-    array-copy-out-at-shares
+    array-copy-out-part-2
     part-requires-3
     key-share-groups-requires
-    array-copy-out-at-algorithms
+    array-copy-out-part-3
     part-requires-4
     word-list-requires
-    array-copy-out-at-versions
+    array-copy-out-part-4
     part-requires-5
     word-list-requires-2
     array-copy-out-at-protocols
