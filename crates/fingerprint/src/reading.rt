@@ -20,7 +20,8 @@ use crate::walk::survey_block;
 use fingerprint_lists::Types;
 use profiles::ExtType;
 
-// The report is handed out before the refusals, for then the compiler builds it where it is to stand.
+// The report of any bytes: that of the hello, or the number of the refusal and nothing else. It is handed out before the refusals, for
+// then the compiler makes a copy less.
 pub fn parse_clienthello(hello: &[u8]) -> Fingerprint
     ensures { λ r. ⌜ r ≡ parsedOf (read (now (hello .entry))) ⌝ }
 {
