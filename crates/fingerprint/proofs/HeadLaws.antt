@@ -14,7 +14,7 @@ use Rattle.wire.proofs.ListLaws.{lt-or-le}
 use Rattle.fingerprint_bodies.specs.Entries.{entry, bind, vectorAt, whole, atLeast, atMost}
 use Rattle.fingerprint_bodies.specs.Forms.{wordsIn, evenWords}
 use Rattle.fingerprint_bodies.proofs.PieceLaws.{taken-there, taken-cut, vector-short, vector-there, vector-cut, whole-there, whole-short, whole-other}
-use Rattle.fingerprint_bodies.proofs.OneLaws.{number-one}
+use Rattle.varint.proofs.ByteLaws.{number-one}
 use Rattle.fingerprint.specs.Reader.{Fields, inForm, afterSuites, afterSession, fields, readExtensions, readBody, read}
 
 -- ---- The first four bytes

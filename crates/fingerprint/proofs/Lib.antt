@@ -2,7 +2,6 @@
 pub mod HeadLaws
 pub mod HeadAnswers
 pub mod KindLaws
-pub mod KnownLaws
 pub mod StepLaws
 pub mod GatherLaws
 pub mod IdLaws

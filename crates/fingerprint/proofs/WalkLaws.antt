@@ -1,5 +1,5 @@
 -- The walk's turns, and its state before each. Assumes nothing.
-use Prim.Native.Nat.{ℕ, zero, suc, _+_, _-_, _%_, _≤_, _<_}
+use Prim.Native.Nat.{ℕ, suc, _+_, _-_, _%_, _≤_, _<_}
 use mathlib.Core.Path.{_≡_, refl, sym, ap, _∙_, subst}
 use mathlib.Core.Bool.{Bool, true, false}
 use mathlib.Core.List.{List, [], _∷_, _++_, map, map-append}
@@ -16,15 +16,17 @@ use Rattle.profiles.specs.declared.ExtType.{ExtType}
 use Rattle.fingerprint_bodies.specs.Entries.{entry}
 use Rattle.fingerprint_bodies.specs.Body.{Kind, kind, encodeBody}
 use Rattle.fingerprint_bodies.proofs.BodyBack.{encoded-length}
+use Rattle.fingerprint_parameters.specs.Code.{Marked}
+use Rattle.fingerprint_parameters.proofs.MarkLaws.{marked-none, marked-next}
 use Rattle.fingerprint_lists.specs.Arrays.{extType, span, padded}
 use Rattle.fingerprint_lists.specs.declared.Span.{Span}
 use Rattle.fingerprint_lists.proofs.FillLaws.{padded-none, padded-set}
 use Rattle.fingerprint.specs.ClientHello.{Extension, typeOf, encodeExtensions}
 use Rattle.fingerprint.specs.Reader.{extension, walk, allExtensions}
-use Rattle.fingerprint.specs.Code.{slot, Marked, Gained, StepFound, Noted, Surveyed, onward, Walking}
+use Rattle.fingerprint.specs.Code.{slot, Gained, StepFound, Noted, Surveyed, onward, Walking}
 use Rattle.fingerprint.proofs.KindLaws.{slot-small}
-use Rattle.fingerprint.proofs.KnownLaws.{marked-none, marked-next}
 use Rattle.fingerprint.proofs.GatherLaws.{length-snoc, count-below}
+use Rattle.fingerprint.proofs.WalkTrips.{walk-none}
 use Rattle.fingerprint.proofs.IdLaws.{ids-none, ids-next}
 use Rattle.fingerprint.proofs.NoteLaws.{notes-none, notes-next}
 
@@ -55,14 +57,9 @@ module _ (h : List ℕ) (block : ℕ) where
         let here : drop at h ≡ getD h at 0 ∷ drop (suc at) h = drop-cons h at 0 l in
         rw (burn, here, rw here at x)
 
-  walk-nothing : (f : ℕ) (found : List Extension) → walk f found [] ≡ result found
-  unfolding walk
-  walk-nothing zero found = refl
-  walk-nothing (suc f) found = refl
-
   onward-end : (found : List Extension) (at : ℕ) → length h ≤ at → onward h block found at ≡ result found
   unfolding onward
-  onward-end found at l = rw (drop-of-length-le h {i = at} l) (walk-nothing (length (drop block h) - length found) found)
+  onward-end found at l = rw (drop-of-length-le h {i = at} l) (walk-none (length (drop block h) - length found) found)
 
 -- ---- one more at the end of lists
 
@@ -110,8 +107,8 @@ module _ {h : List ℕ} {block at count : ℕ} {types : List ExtType} {known : L
   pub known-long : length known ≡ 64
   known-long = places 0 (map typeOf (w .found)) known count (w .known-are) known-count (omega (arith, w .count-is, w .few))
 
-  pub known-marked : Marked (take count known) marks
-  known-marked = subst (λ (ts : List ℕ). Marked ts marks) (sym known-take) (w .marked)
+  pub known-marked : Marked marks (take count known)
+  known-marked = subst (λ (ts : List ℕ). Marked marks ts) (sym known-take) (w .marked)
 
   pub has-room : length (take count known) < 64 → count < 64
   has-room l = omega (arith, l, ap length known-take, known-count)
@@ -156,9 +153,9 @@ module _ {h : List ℕ} {block at count : ℕ} {types : List ExtType} {known : L
     types-next : map typeOf all ≡ map typeOf (w .found) ++ (t ∷ [])
     types-next = map-append typeOf (w .found) (next ∷ [])
 
-    marked-all : Marked (map typeOf all) (set marks mark true)
+    marked-all : Marked (set marks mark true) (map typeOf all)
     marked-all =
-        rw (types-next, m) (marked-next (map typeOf (w .found)) marks t (omega (arith, w .marks-long)) (w .marked))
+        rw (types-next, m) (marked-next marks (map typeOf (w .found)) t (w .marks-long) (w .marked))
 
     type-new : member t (map typeOf (w .found)) ≡ false
     type-new = ap (λ (ts : List ℕ). member t ts) (sym known-take) ∙ s .new

@@ -157,7 +157,7 @@ once-more t l d m = once-distinct (l ++ t ∷ []) (λ x. rw (count-append x l (t
 
 -- ---- all of them
 
-walk-none : (f : ℕ) (done : List Extension) → walk f done [] ≡ result done
+pub walk-none : (f : ℕ) (done : List Extension) → walk f done [] ≡ result done
 unfolding walk
 walk-none zero done = refl
 walk-none (suc f) done = refl

@@ -1,7 +1,7 @@
 -- What the answers of the code's inner functions stand for. No call of document 01 cites this file.
-use Prim.Native.Nat.{ℕ, _+_, _-_, _*_, _%_, _≤_, _<_}
+use Prim.Native.Nat.{ℕ, _+_, _-_, _*_, _≤_, _<_}
 use mathlib.Core.Path.{_≡_}
-use mathlib.Core.Bool.{Bool, true, false, cond}
+use mathlib.Core.Bool.{Bool, false, cond}
 use mathlib.Core.List.{List, [], _∷_, map}
 use mathlib.Core.Option.{Option, none, some}
 use lib.ListN.{length, take, drop, getD}
@@ -12,9 +12,9 @@ use Rattle.wire.specs.Sums.{member}
 use Rattle.profiles.specs.declared.ExtType.{ExtType}
 use Rattle.fingerprint_bodies.specs.Entries.{entry, orEmpty, whole}
 use Rattle.fingerprint_bodies.specs.Body.{Body, Kind, kind, name, groups, algorithms, protocols, versions, shares, parameters, other}
-use Rattle.fingerprint_bodies.specs.Forms.{wordsIn, wordList, serverName, protocolNames, keyShares, transportParameters, groupOf, idOf, bodyOf}
+use Rattle.fingerprint_bodies.specs.Forms.{wordsIn, wordList, serverName, protocolNames, keyShares, groupOf, bodyOf}
 use Rattle.fingerprint_bodies.specs.Code.{asked}
-use Rattle.fingerprint_parameters.specs.Code.{idsIn}
+use Rattle.fingerprint_parameters.specs.Code.{idsIn, Marked}
 use Rattle.fingerprint_parameters.specs.declared.Asked.{Asked}
 use Rattle.fingerprint_lists.specs.Arrays.{extType, span, padded, Part, part, placed}
 use Rattle.fingerprint_lists.specs.declared.Span.{Span}
@@ -120,12 +120,8 @@ Shows algorithms block es at bs = gathered numbersIn 0x000d block es ≡ orEmpty
 Shows protocols block es at bs = gathered namesIn 0x0010 block es ≡ placed (at + 2) (orEmpty (protocolNames bs))
 Shows versions block es at bs = gathered numbersIn 0x002b block es ≡ orEmpty (wordList 1 bs)
 Shows shares block es at bs = gathered numbersIn 0x0033 block es ≡ map groupOf (orEmpty (keyShares bs))
-Shows parameters block es at bs = gathered numbersIn 0x0039 block es ≡ map idOf (orEmpty (transportParameters bs))
+Shows parameters block es at bs = gathered numbersIn 0x0039 block es ≡ idsIn bs
 Shows other block es at bs = Unit {0}
-
--- each of these types has its mark, at its rest by 64
-abbrev pub Marked : List ℕ → List Bool → Type 0
-Marked ts marks = (t : ℕ) → member t ts ≡ true → getD marks (t % 64) false ≡ true
 
 -- the extension whose header stands at a place
 pub record HeaderFound (h : List ℕ) (at t start end : ℕ) : Type 0 where
@@ -211,7 +207,7 @@ pub record Walking (h : List ℕ) (block at count : ℕ) (types : List ExtType) 
   pub types-are : types ≡ padded 64 (extType 0) (map extType (map typeOf found))
   pub known-are : known ≡ padded 64 0 (map typeOf found)
   pub marks-long : length marks ≡ 64
-  pub marked : Marked (map typeOf found) marks
+  pub marked : Marked marks (map typeOf found)
   pub bodies-long : length bodies ≡ 8
   pub ids-long : length ids ≡ 64
   pub ids-are : IdsFound block found id-count ids

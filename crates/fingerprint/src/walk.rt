@@ -5,8 +5,9 @@ ghost use mathlib.Core.Path.{_≡_};
 ghost use lib.ListN.{length, take, replicate};
 ghost use Rattle.wire.specs.Sums.{member};
 ghost use Rattle.fingerprint_bodies.specs.Body.{kind};
+ghost use Rattle.fingerprint_parameters.specs.Code.{Marked};
 ghost use Rattle.fingerprint.specs.Code as code;
-ghost use Rattle.fingerprint.specs.Code.{Marked, HeaderAs, BodyAsked, StepAs, SurveyAs};
+ghost use Rattle.fingerprint.specs.Code.{HeaderAs, BodyAsked, StepAs, SurveyAs};
 use fingerprint_lists::Span;
 use fingerprint_parameters::Asked;
 use fingerprint_parameters::without_ids;
@@ -91,7 +92,7 @@ fn mark(t: u16) -> usize
 }
 
 fn is_known(known: &[u16; 64], count: usize, marks: &[bool; 64], t: u16) -> bool
-    requires { ⌜ (count ≤ 64) × (length (now known) ≡ 64) × (length (now marks) ≡ 64) × Marked (take count (now known)) (now marks) ⌝ }
+    requires { ⌜ (count ≤ 64) × (length (now known) ≡ 64) × (length (now marks) ≡ 64) × Marked (now marks) (take count (now known)) ⌝ }
     ensures { λ r. ⌜ r ≡ member t (take count (now (known .entry))) ⌝ }
 {
     if marks[mark(t)] {
@@ -126,7 +127,7 @@ fn extension(
     marks: &[bool; 64],
     ids: &mut [u64; 64],
 ) -> Step
-    requires { ⌜ (at ≤ length (now hello)) × (length (now hello) ≤ 16384) × (count ≤ 64) × (length (now known) ≡ 64) × (length (now marks) ≡ 64) × Marked (take count (now known)) (now marks) × (length (now ids) ≡ 64) ⌝ }
+    requires { ⌜ (at ≤ length (now hello)) × (length (now hello) ≤ 16384) × (count ≤ 64) × (length (now known) ≡ 64) × (length (now marks) ≡ 64) × Marked (now marks) (take count (now known)) × (length (now ids) ≡ 64) ⌝ }
     ensures { λ r. ⌜ StepAs r (now (hello .entry)) at (take count (now (known .entry))) (now (ids .entry)) (now (ids .exit)) ⌝ }
 {
     let Header::At(t, start, end) = read_header(hello, at) else {

@@ -17,7 +17,7 @@ use Rattle.fingerprint_bodies.specs.Forms.{wordsIn, evenWords, wordList,
 use Rattle.fingerprint_bodies.specs.Code.{within, countAsked, isWhole}
 use Rattle.fingerprint_bodies.proofs.PieceLaws.{number-there, number-cut, whole-is, whole-not}
 use Rattle.fingerprint_bodies.proofs.EntryLaws.{plus, plus-none, plus-some}
-use Rattle.fingerprint_bodies.proofs.OneLaws.{number-one}
+use Rattle.varint.proofs.ByteLaws.{number-one}
 
 -- n is the count that stands in front
 pub whole-asked : (width : ℕ) (bs : List ℕ) (n : ℕ) → n ≡ number 256 (take width bs) → width ≤ length bs → eqb n (length bs - width) ≡ isWhole width bs

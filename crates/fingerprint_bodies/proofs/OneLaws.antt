@@ -3,24 +3,20 @@ use Prim.Native.Nat.{ℕ, _+_, _-_, _≤_, _<_, zero-le}
 use mathlib.Core.Path.{_≡_, refl, sym, _∙_}
 use mathlib.Core.Bool.{cond}
 use mathlib.Core.Logic.{⊎-elim}
-use mathlib.Core.List.{List, [], _∷_}
+use mathlib.Core.List.{List}
 use mathlib.Core.Option.{Option, none, some}
 use native.Mathlib.Omega.{arith}
 use borrow.Author.Tests.{le-leb}
 use lib.ListN.{length, take, drop, getD, length-drop}
 use lib.Seq.{length-take-le, drop-drop}
 use lib.Dec.{leb}
-use Rattle.wire.specs.Numbers.{numberOn, number}
+use Rattle.wire.specs.Numbers.{number}
 use Rattle.wire.proofs.ListLaws.{lt-or-le}
+use Rattle.varint.proofs.ByteLaws.{number-one}
 use Rattle.fingerprint_bodies.specs.Entries.{Entry, entry, bind, vectorAt}
 use Rattle.fingerprint_bodies.specs.Body.{Share}
 use Rattle.fingerprint_bodies.specs.Forms.{oneName, oneShare}
 use Rattle.fingerprint_bodies.proofs.PieceLaws.{number-there, number-cut, vector-short, vector-there, vector-cut}
-
-pub number-one : (bs : List ℕ) → 1 ≤ length bs → number 256 (take 1 bs) ≡ getD bs 0 0
-unfolding number numberOn
-number-one [] h = absurd (omega arith)
-number-one (b ∷ bs) h = omega arith
 
 -- ---- A vector of one byte or more, and what is made of it
 

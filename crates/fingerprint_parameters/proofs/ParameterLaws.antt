@@ -16,6 +16,7 @@ use Rattle.varint.specs.Varint.{classAt, readOf}
 use Rattle.varint.specs.declared.Varint.{Varint}
 use Rattle.varint.proofs.TableLaws.{width-positive}
 use Rattle.varint.proofs.RoundTrip.{read-formed}
+use Rattle.fingerprint_bodies.proofs.BindLaws.{bind-some}
 use Rattle.fingerprint_bodies.specs.Entries.{Entry, entry, bind, mapped, orEmpty, taken, first, entries, allEntries}
 use Rattle.fingerprint_bodies.specs.Body.{Number, Parameter}
 use Rattle.fingerprint_bodies.specs.Forms.{varintFound, varintAt, oneParameter, transportParameters, idOf}
@@ -23,16 +24,6 @@ use Rattle.fingerprint_bodies.proofs.EntryLaws.{There, there-first, or-first, t
 use Rattle.fingerprint_parameters.specs.Code.{ParameterFound, idsOf, idsIn}
 
 -- ---- where a whole is there, so is each of its pieces, and what follows it is a later part of the same bytes
-
-record Bound {A B : Type 0} (x : Option A) (f : A → Option B) (b : B) : Type 0 where
-  value : A
-  is : x ≡ some value
-  after : f value ≡ some b
-
-bind-some : {A B : Type 0} (x : Option A) (f : A → Option B) (b : B) → bind x f ≡ some b → Bound x f b
-unfolding bind
-bind-some none f b e = absurd (let z : _≡_ {A = ℕ} 0 1 = cc in omega arith)
-bind-some (some a) f b e = record { value = a; is = refl; after = e }
 
 taken-rest : (n : ℕ) (bs : List ℕ) (e : Entry (List ℕ)) → taken n bs ≡ some e → e .rest ≡ drop n bs
 unfolding taken

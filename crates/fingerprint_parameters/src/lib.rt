@@ -1,14 +1,13 @@
 // The body of the transport parameters (extension 0039; RFC 9000, section 18): ids, each with a length and a value. Document 01,
 // questions 21 to 23 for this body.
 ghost use mathlib.Core.Path.{_≡_};
-ghost use mathlib.Core.List.{map};
 ghost use mathlib.Core.Option.{some};
 ghost use Prim.Native.Nat.{_≤_};
 ghost use lib.ListN.{length, take};
 ghost use Rattle.wire.specs.Sums.{member, distinct};
 ghost use Rattle.fingerprint_bodies.specs.Entries.{orEmpty};
-ghost use Rattle.fingerprint_bodies.specs.Forms.{transportParameters, idOf};
-ghost use Rattle.fingerprint_parameters.specs.Code.{ParameterAs, shortOf, idsOf, Kept, AskedIds};
+ghost use Rattle.fingerprint_bodies.specs.Forms.{transportParameters};
+ghost use Rattle.fingerprint_parameters.specs.Code.{ParameterAs, shortOf, idsOf, Kept, idsIn, AskedIds};
 use varint::Got;
 
 // A parameter at the front of some bytes: its id, and the bytes that it takes.
@@ -133,7 +132,7 @@ fn all_new(ids: &[u64; 64], n: usize) -> bool
 // The id stands among the parameters.
 fn has_id(list: &[u8], id: u64) -> bool
     requires { ⌜ transportParameters (now list) ≡ some (orEmpty (transportParameters (now list))) ⌝ }
-    ensures { λ r. ⌜ r ≡ member id (map idOf (orEmpty (transportParameters (now (list .entry))))) ⌝ }
+    ensures { λ r. ⌜ r ≡ member id (idsIn (now (list .entry))) ⌝ }
 {
     let n = list.len();
     let mut at: usize = 0;
@@ -152,7 +151,7 @@ fn has_id(list: &[u8], id: u64) -> bool
 // No id stands twice in the body, however many there are: each is looked for among those after it.
 pub fn ids_new(body: &[u8]) -> bool
     requires { ⌜ transportParameters (now body) ≡ some (orEmpty (transportParameters (now body))) ⌝ }
-    ensures { λ r. ⌜ r ≡ distinct (map idOf (orEmpty (transportParameters (now (body .entry))))) ⌝ }
+    ensures { λ r. ⌜ r ≡ distinct (idsIn (now (body .entry))) ⌝ }
 {
     let n = body.len();
     let mut at: usize = 0;

@@ -2,7 +2,7 @@
 use mathlib.Core.Path.{_≡_, sym, _∙_}
 use Prim.Native.Nat.{_≤_}
 use lib.ListN.{length}
-use Rattle.fingerprint_bodies.proofs.OneLaws.{number-one}
+use Rattle.varint.proofs.ByteLaws.{number-one}
 use Rattle.fingerprint_bodies.proofs.FormLaws.{whole-asked, whole-few}
 use native.Mathlib.Omega.{arith}
 use borrow.Author.Needs.{needs}

@@ -7,8 +7,8 @@ use denote.Ref.{now}
 use lib.ListN.{length, take, getD, replicate, length-set}
 use Rattle.wire.specs.Sums.{member, distinct}
 use Rattle.fingerprint_parameters.specs.Code.{Marked}
-use Rattle.fingerprint_parameters.proofs.MemberLaws.{new-start, new-next, new-not}
-use Rattle.fingerprint_parameters.proofs.MarkLaws.{marked-start, marked-next, unmarked-new}
+use Rattle.fingerprint_parameters.proofs.MemberLaws.{one-more, new-start, new-next, new-not}
+use Rattle.fingerprint_parameters.proofs.MarkLaws.{marked-none, marked-next, unmarked-new}
 use borrow.Author.Needs.{needs}
 use native.Mathlib.Omega.{arith}
 use Rattle.fingerprint_parameters.proofs.all_new.Statement.{statement}
@@ -40,7 +40,7 @@ not-before c =
     (c .if1 .came)
 
 loop-holds : tie.Need-loop-holds Inv-loop μ-loop
-loop-holds c = (zero-le, refl, marked-start (replicate 64 false) (now (c .args .ids)), new-start (now (c .args .ids)))
+loop-holds c = (zero-le, refl, marked-none (replicate 64 false), new-start (now (c .args .ids)))
 
 mul-id : tie.Need-mul-id Inv-loop μ-loop
 mul-id c = search needs
@@ -82,7 +82,7 @@ loop-again c =
     let h = within turn in (
       omega (arith, test .taken),
       length-set (loop .marks) (getD s (loop .i) 0 % 64) true ∙ loop .inv .1,
-      marked-next s (loop .i) h (loop .marks) (loop .inv .1) (loop .inv .2),
+      rw (one-more s (loop .i) h) (marked-next (loop .marks) (take (loop .i) s) (getD s (loop .i) 0) (loop .inv .1) (loop .inv .2)),
       new-next s (loop .i) h (loop .inv .3) (not-before c),
     )
 

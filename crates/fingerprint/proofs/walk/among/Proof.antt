@@ -3,7 +3,8 @@ use mathlib.Core.Path.{_≡_, refl, sym, _∙_}
 use Prim.Native.Nat.{_-_, _≤_, zero-le}
 use lib.ListN.{take, drop}
 use Rattle.wire.specs.Sums.{member}
-use Rattle.fingerprint.proofs.KnownLaws.{member-here, member-next, member-end}
+use Rattle.fingerprint_parameters.proofs.MemberLaws.{among-here, among-next, among-end}
+use denote.Ref.{now}
 use borrow.Author.Needs.{needs}
 use native.Mathlib.Omega.{arith}
 use Rattle.fingerprint.proofs.walk.among.Statement.{statement}
@@ -27,7 +28,12 @@ element-copy-out-if1 : tie.Need-element-copy-out-if1 Inv-loop μ-loop
 element-copy-out-if1 c = search needs
 
 returns : tie.Need-returns Inv-loop μ-loop
-returns c = sym ((c .before .before .before .loop .inv .1) ∙ member-here (c .before .before .before .before .args .known .now) (c .before .before .before .before .args .count) (c .before .before .before .loop .i) (c .before .before .before .before .args .t) (c .before .before .loop-test .taken) (omega (arith, (c .before .before .before .before .pre .0), (c .before .before .before .before .pre .1))) (c .if1 .taken))
+returns c =
+    let args = c .before .before .before .before .args in
+    let pre = c .before .before .before .before .pre in
+    let loop = c .before .before .before .loop in
+    let test = c .before .before .loop-test in
+    sym (loop .inv .1 ∙ among-here (now (args .known)) (args .count) (loop .i) (test .taken) (omega (arith, pre .0, pre .1)) (args .t) (c .if1 .taken))
 
 add-i : tie.Need-add-i Inv-loop μ-loop
 add-i c = search needs
@@ -36,10 +42,20 @@ loop-less : tie.Need-loop-less Inv-loop μ-loop
 loop-less c = search needs
 
 loop-again : tie.Need-loop-again Inv-loop μ-loop
-loop-again c = (search needs, (c .before .before .before .loop .inv .1) ∙ member-next (c .before .before .before .before .args .known .now) (c .before .before .before .before .args .count) (c .before .before .before .loop .i) (c .before .before .before .before .args .t) (c .before .before .loop-test .taken) (omega (arith, (c .before .before .before .before .pre .0), (c .before .before .before .before .pre .1))) (c .if1 .left))
+loop-again c =
+    let args = c .before .before .before .before .args in
+    let pre = c .before .before .before .before .pre in
+    let loop = c .before .before .before .loop in
+    let test = c .before .before .loop-test in (
+      search needs,
+      loop .inv .1 ∙ among-next (now (args .known)) (args .count) (loop .i) (test .taken) (omega (arith, pre .0, pre .1)) (args .t) (c .if1 .left),
+    )
 
 returns-2 : tie.Need-returns-2 Inv-loop μ-loop
-returns-2 c = sym ((c .before .loop .inv .1) ∙ member-end (c .before .before .args .known .now) (c .before .before .args .count) (c .before .loop .i) (c .before .before .args .t) (c .loop-test .left))
+returns-2 c =
+    let args = c .before .before .args in
+    let loop = c .before .loop in
+    sym (loop .inv .1 ∙ among-end (now (args .known)) (args .count) (loop .i) (args .t) (c .loop-test .left))
 
 pub among-spec : {M : Type 1} → statement M
 among-spec =

@@ -1,6 +1,10 @@
 -- `is_known`: a type without its mark is among none. Assumes nothing.
-use Rattle.fingerprint.proofs.KnownLaws.{unmarked}
-use lib.ListN.{take}
+use mathlib.Core.Path.{sym, _∙_, ap}
+use Prim.Native.Nat.{ℕ}
+use mathlib.Core.Bool.{false}
+use denote.Ref.{now}
+use Rattle.fingerprint_parameters.proofs.MarkLaws.{unmarked-new}
+use lib.ListN.{take, getD}
 use borrow.Author.Needs.{needs}
 use Rattle.fingerprint.proofs.walk.is_known.Statement.{statement}
 use Rattle.fingerprint.proofs.walk.is_known.Tie as tie
@@ -18,7 +22,11 @@ returns : tie.Need-returns
 returns c = search needs
 
 returns-2 : tie.Need-returns-2
-returns-2 c = unmarked (take (c .before .before .before .args .count) (c .before .before .before .args .known .now)) (c .before .before .before .args .marks .now) (c .before .before .before .args .t) (c .before .before .mark .result) (c .before .before .mark .ensures) (c .before .before .before .pre .3) (c .if1 .left)
+returns-2 c =
+    let args = c .before .before .before .args in
+    let mark = c .before .before .mark in
+    let no-mark = ap (λ (m : ℕ). getD (now (args .marks)) m false) (sym (mark .ensures)) ∙ c .if1 .left in
+    sym (unmarked-new (now (args .marks)) (take (args .count) (now (args .known))) (args .t) (c .before .before .before .pre .3) no-mark)
 
 pub is-known-spec : {M : Type 1} → statement M
 is-known-spec =
