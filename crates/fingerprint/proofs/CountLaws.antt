@@ -13,18 +13,8 @@ use Rattle.fingerprint_bodies.specs.Conditions.{All, FormedBody}
 use Rattle.fingerprint_bodies.specs.Forms.{groupOf, idOf}
 use Rattle.fingerprint_lists.proofs.ReadLaws.{length-placed}
 use Rattle.fingerprint.specs.ClientHello.{Extension, ClientHello, typeOf, FormedExtension, WellFormed}
-use Rattle.fingerprint.specs.Report.{Report, numbersIn, namesIn, gathered, blockPlace, report}
-
--- each list has its place in its array
-pub record Within (r : Report) : Type 0 where
-  pub suites : length (r .cipherSuites) ≤ 64
-  pub types : length (r .extensions) ≤ 64
-  pub groups : length (r .supportedGroups) ≤ 64
-  pub shares : length (r .keyShareGroups) ≤ 64
-  pub algorithms : length (r .signatureAlgorithms) ≤ 64
-  pub versions : length (r .supportedVersions) ≤ 64
-  pub protocols : length (r .alpn) ≤ 16
-  pub ids : length (r .transportParamIds) ≤ 64
+use Rattle.fingerprint.specs.Report.{numbersIn, namesIn, gathered, blockPlace, report}
+use Rattle.fingerprint.specs.InRange.{Within}
 
 -- ---- a list of the extensions of type t, of which each holds at most m
 

@@ -18,4 +18,5 @@ pub mod WellFormed
 pub mod Accepted
 pub mod Ranges
 pub mod CountLaws
+pub mod ShownLaws
 pub mod Samples

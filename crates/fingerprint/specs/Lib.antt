@@ -3,3 +3,4 @@ pub mod Reader
 pub mod Report
 pub mod Calls
 pub mod Code
+pub mod InRange

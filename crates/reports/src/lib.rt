@@ -7,7 +7,8 @@ pub mod numbers; // a number in hex, after a space
 
 ghost use Rattle.script.specs.Answers.{WrittenAll};
 ghost use Rattle.reports.specs.Lines.{nameAnswer};
-ghost use Rattle.reports.specs.Code.{firstParts, listParts, lastParts, reportParts, setParts, Filled, Counts, Sane};
+ghost use Rattle.reports.specs.Code.{firstParts, listParts, lastParts, reportParts, setParts};
+ghost use Rattle.fingerprint.specs.InRange.{Filled, Counts, Sane};
 use fingerprint::Fingerprint;
 use fingerprint_lists::Types;
 use lists::put_groups;

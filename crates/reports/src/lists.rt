@@ -4,7 +4,7 @@ ghost use Prim.Native.Nat.{_≤_};
 ghost use lib.ListN.{length, take};
 ghost use Rattle.script.specs.Answers.{WrittenAll};
 ghost use Rattle.reports.specs.Digits.{wordText, idText};
-ghost use Rattle.reports.specs.Code.{typeNumbers, groupNumbers, Filled};
+ghost use Rattle.fingerprint.specs.InRange.{typeNumbers, groupNumbers, Filled};
 use crate::numbers::put_id;
 use crate::numbers::put_word;
 use profiles::ExtType;

@@ -9,11 +9,11 @@ use Rattle.fingerprint.specs.Report.{report}
 use Rattle.fingerprint.specs.declared.Fingerprint.{Fingerprint}
 use Rattle.reports.specs.Lines.{reportText}
 use Rattle.reports.specs.Code.{reportParts}
-use Rattle.reports.proofs.ShowLaws.{parts-shown, shown-sane}
+use Rattle.reports.proofs.ShowLaws.{parts-shown}
 use Rattle.answers.specs.Answers.{reportAnswer}
 use Rattle.wire.specs.Answer.{refused}
 use Rattle.answers.proofs.AnswerLaws.{says-result, says-refused}
-use Rattle.answers.proofs.ReaderLaws.{reported, refusal-is}
+use Rattle.fingerprint.proofs.ShownLaws.{parsed-sane, reported, refusal-is}
 use Rattle.answers.proofs.say_report.Statement.{statement}
 use Rattle.answers.proofs.say_report.Tie as tie
 
@@ -46,7 +46,7 @@ put-report-requires c κs =
     let h : List ℕ = now (c .before .before .before .before .before .args .hello) in
     let bytes : Bytes h = λ i. ((c .before .before .before .before .shared-slice-known .given) i) .fits in
     let r = reported h bytes (parsed .result) (parsed .ensures) (c .before .if1 .left) in
-    rw (r .shows) (shown-sane h 0 (report (r .value)) (r .writable))
+    parsed-sane h (parsed .result) r
 
 same-length-2 : tie.Need-same-length-2
 same-length-2 c = search needs
@@ -60,7 +60,7 @@ returns-2 c =
     let bytes : Bytes h = λ i. ((c .before .before .before .before .before .before .before .shared-slice-known .given) i) .fits in
     let r = reported h bytes (parsed .result) (parsed .ensures) (c .before .before .before .before .if1 .left) in
     let text : reportParts h (parsed .result) ≡ reportText (report (r .value)) =
-    ap (λ (f : Fingerprint). reportParts h f) (r .shows) ∙ parts-shown h 0 (report (r .value)) (r .writable) in
+    ap (λ (f : Fingerprint). reportParts h f) (r .shows) ∙ parts-shown h 0 (report (r .value)) (r .in-range) in
     rw (r .accepted) (says-result (reportText (report (r .value))) (put .result) (now (args .out)) (put .last .0) (rw text at (put .ensures)))
 
 pub say-report-spec : {M : Type 1} → statement M

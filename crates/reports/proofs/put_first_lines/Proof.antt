@@ -7,7 +7,7 @@ use Rattle.script.specs.Decimal.{decimalText}
 use Rattle.script.proofs.AnswerLaws.{written-more}
 use Rattle.reports.specs.Digits.{wordText}
 use Rattle.reports.specs.Lines.{sessionLabel, suitesLabel, extensionsLabel, firstLines}
-use Rattle.reports.specs.Code.{typeNumbers}
+use Rattle.fingerprint.specs.InRange.{typeNumbers}
 use native.Mathlib.Omega.{arith}
 use borrow.Author.Needs.{needs}
 use Rattle.reports.proofs.put_first_lines.Statement.{statement}

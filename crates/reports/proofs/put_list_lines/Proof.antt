@@ -6,7 +6,7 @@ use lib.ListN.{take}
 use Rattle.script.proofs.AnswerLaws.{written-more}
 use Rattle.reports.specs.Digits.{wordText}
 use Rattle.reports.specs.Lines.{groupsLabel, sharesLabel, algorithmsLabel, versionsLabel, listLines}
-use Rattle.reports.specs.Code.{groupNumbers}
+use Rattle.fingerprint.specs.InRange.{groupNumbers}
 use Rattle.reports.proofs.PartLaws.{all-as}
 use native.Mathlib.Omega.{arith}
 use borrow.Author.Needs.{needs}

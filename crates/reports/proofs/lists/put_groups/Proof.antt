@@ -5,7 +5,7 @@ use mathlib.Core.List.{List, _∷_, map, map-map}
 use lib.ListN.{length, take}
 use Rattle.reports.specs.Digits.{wordText}
 use Rattle.fingerprint_lists.specs.Arrays.{group}
-use Rattle.reports.specs.Code.{groupNumber, groupNumbers}
+use Rattle.fingerprint.specs.InRange.{groupNumber, groupNumbers}
 use Rattle.reports.proofs.PartLaws.{Grown, grown-none, grown-one, all-as}
 use borrow.Author.Needs.{needs}
 use native.Mathlib.Omega.{arith}

@@ -5,7 +5,8 @@ use mathlib.Core.List.{List, _∷_, map, map-map}
 use lib.ListN.{length, take}
 use Rattle.reports.specs.Digits.{wordText}
 use Rattle.fingerprint_lists.specs.Arrays.{extType}
-use Rattle.reports.specs.Code.{typeNumber, typeNumbers}
+use Rattle.fingerprint.specs.Code.{typeNumber}
+use Rattle.fingerprint.specs.InRange.{typeNumbers}
 use Rattle.reports.proofs.PartLaws.{Grown, grown-none, grown-one, all-as}
 use borrow.Author.Needs.{needs}
 use native.Mathlib.Omega.{arith}
