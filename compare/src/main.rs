@@ -1,6 +1,7 @@
 //! Compares the original Rust with the library of this repository, and times both (compare/README.md).
 //! Each part of the original has a module here with `compare`, and `time` and `sample` where it has them.
 
+mod alike;
 mod captures;
 mod cut;
 mod join;
@@ -59,6 +60,7 @@ fn compare_all(captures: &[Capture], greetings: &[Greeting]) -> ExitCode {
     split::compare(&mut tally);
     make::compare(&mut tally);
     read::compare(&mut tally, greetings);
+    alike::compare(&mut tally);
     timing::print_how();
     varint::time(&mut tally);
     join::time(&mut tally, captures);

@@ -99,18 +99,35 @@ pub(crate) fn any_hello(random: &mut Random) -> Vec<u8> {
     good(random).made_by_rust().0
 }
 
-/// Any profile, name and connection id, and a tape of zeros, of ones, or random.
+/// The original's hello of a profile and a name, with any connection id and tape.
+pub(crate) fn hello_for(profile: u64, name: &[u8], random: &mut Random) -> Vec<u8> {
+    let s = random.below(21);
+    let scid = random.bytes(s);
+    let question = Question::new(profile, name, &scid, any_fill(random));
+    question.made_by_rust().0
+}
+
+/// Any profile, name, connection id and tape.
 fn good(random: &mut Random) -> Question {
     let profile = random.below(TABLE.len()) as u64;
     let (n, s) = (1 + random.below(255), random.below(21));
-    let name: Vec<u8> = (0..n).map(|_| 33 + random.below(94) as u8).collect();
+    let name = any_name(n, random);
     let scid = random.bytes(s);
-    let fill = match random.below(8) {
+    Question::new(profile, &name, &scid, any_fill(random))
+}
+
+/// A name of so many bytes, each one that document 01 allows.
+pub(crate) fn any_name(length: usize, random: &mut Random) -> Vec<u8> {
+    (0..length).map(|_| 33 + random.below(94) as u8).collect()
+}
+
+/// A tape of zeros, of ones, or random.
+fn any_fill(random: &mut Random) -> Fill {
+    match random.below(8) {
         0 => Fill::Same(0x00),
         1 => Fill::Same(0xff),
         _ => Fill::Random(random.next() | 1),
-    };
-    Question::new(profile, &name, &scid, fill)
+    }
 }
 
 /// The same with tape and output that may be longer; one in so many has something wrong with it.

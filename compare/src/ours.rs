@@ -77,6 +77,7 @@ mod archive {
             out_len: usize,
         ) -> u64;
         pub(super) fn compare_picked(hello: *const u8, hello_len: usize, place: usize) -> u64;
+        pub(super) fn compare_alike(a: *const u8, a_len: usize, b: *const u8, b_len: usize) -> u64;
         pub(super) fn compare_next(blob: *const u8, blob_len: usize, place: usize) -> u64;
         pub(super) fn compare_record(
             blob: *const u8,
@@ -222,6 +223,16 @@ fn text_by(call: archive::Text, hello: &[u8], room: usize) -> Result<String, u64
 pub(crate) fn picked(hello: &[u8], place: usize) -> u64 {
     // SAFETY: pointer and length are those of one slice, which the call reads.
     unsafe { archive::compare_picked(hello.as_ptr(), hello.len(), place) }
+}
+
+/// Whether two hellos are alike.
+pub(crate) fn alike(a: &[u8], b: &[u8]) -> bool {
+    // SAFETY: each pointer and length are those of one slice, which the call reads.
+    match unsafe { archive::compare_alike(a.as_ptr(), a.len(), b.as_ptr(), b.len()) } {
+        0 => false,
+        1 => true,
+        number => panic!("for 0 or 1: {number}"),
+    }
 }
 
 /// The place after the record that stands at a place of a blob; `None` at the end.

@@ -3,17 +3,17 @@
 //! 01 (read/law.rs).
 
 mod accepted;
-mod build;
+pub(crate) mod build;
 mod captures;
-mod chance;
-mod counts;
-mod damage;
-mod law;
+pub(crate) mod chance;
+pub(crate) mod counts;
+pub(crate) mod damage;
+pub(crate) mod law;
 mod lengths;
 mod many;
 mod parting;
 mod question;
-mod report;
+pub(crate) mod report;
 mod sample;
 mod seen;
 mod text;

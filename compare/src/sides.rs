@@ -37,6 +37,16 @@ impl<'a, Q: Ask> Sides<'a, Q> {
         self.asked.insert(question)
     }
 
+    /// The same where the answer is known beforehand: ours is held to that too, which counts as one more.
+    pub(crate) fn ask_known(&mut self, question: Q, known: &Q::Answer) -> bool {
+        if self.asked.contains(&question) {
+            return false;
+        }
+        self.tally
+            .expect(&question, "ours", known, &question.by_ours());
+        self.ask(question)
+    }
+
     /// Asks `count` new questions. Short ones are soon used up, so `draw` may run more often.
     pub(crate) fn ask_random(&mut self, count: usize, mut draw: impl FnMut() -> Q) {
         let mut asked = 0;

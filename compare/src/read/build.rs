@@ -2,18 +2,18 @@
 
 /// What a hello holds, without lengths.
 #[derive(Clone)]
-pub(super) struct Parts {
-    pub(super) version: [u8; 2],
-    pub(super) random: Vec<u8>,
-    pub(super) session_id: Vec<u8>,
-    pub(super) suites: Vec<u8>,
-    pub(super) compression: Vec<u8>,
-    pub(super) block: Vec<u8>,
+pub(crate) struct Parts {
+    pub(crate) version: [u8; 2],
+    pub(crate) random: Vec<u8>,
+    pub(crate) session_id: Vec<u8>,
+    pub(crate) suites: Vec<u8>,
+    pub(crate) compression: Vec<u8>,
+    pub(crate) block: Vec<u8>,
 }
 
 impl Parts {
     /// An empty session id, one suite, one compression byte, and these extensions.
-    pub(super) fn plain(block: &[u8]) -> Self {
+    pub(crate) fn plain(block: &[u8]) -> Self {
         Parts {
             version: [3, 3],
             random: (1..=32).collect(),
@@ -25,7 +25,7 @@ impl Parts {
     }
 
     /// Takes a well-formed hello apart.
-    pub(super) fn of(hello: &[u8]) -> Self {
+    pub(crate) fn of(hello: &[u8]) -> Self {
         let (random, rest) = hello[6..].split_at(32);
         let (session_id, rest) = cut(rest, 1);
         let (suites, rest) = cut(rest, 2);
@@ -40,7 +40,7 @@ impl Parts {
         }
     }
 
-    pub(super) fn hello(&self) -> Vec<u8> {
+    pub(crate) fn hello(&self) -> Vec<u8> {
         let fields = [
             &self.version[..],
             &self.random,
@@ -53,7 +53,7 @@ impl Parts {
     }
 
     /// The extensions of a well-formed block.
-    pub(super) fn extensions(&self) -> Vec<Extension> {
+    pub(crate) fn extensions(&self) -> Vec<Extension> {
         let mut extensions = Vec::new();
         let mut rest = &self.block[..];
         while let [high, low, after @ ..] = rest {
@@ -69,28 +69,28 @@ impl Parts {
 }
 
 #[derive(Clone)]
-pub(super) struct Extension {
-    pub(super) kind: u16,
-    pub(super) body: Vec<u8>,
+pub(crate) struct Extension {
+    pub(crate) kind: u16,
+    pub(crate) body: Vec<u8>,
 }
 
 impl Extension {
-    pub(super) fn new(kind: u16, body: Vec<u8>) -> Self {
+    pub(crate) fn new(kind: u16, body: Vec<u8>) -> Self {
         Extension { kind, body }
     }
 
-    pub(super) fn bytes(&self) -> Vec<u8> {
+    pub(crate) fn bytes(&self) -> Vec<u8> {
         [&self.kind.to_be_bytes()[..], &sized(2, &self.body)].concat()
     }
 }
 
 /// The extensions one after another.
-pub(super) fn block(extensions: &[Extension]) -> Vec<u8> {
+pub(crate) fn block(extensions: &[Extension]) -> Vec<u8> {
     extensions.iter().flat_map(Extension::bytes).collect()
 }
 
 /// Bytes with their length of `width` bytes in front.
-pub(super) fn sized(width: usize, bytes: &[u8]) -> Vec<u8> {
+pub(crate) fn sized(width: usize, bytes: &[u8]) -> Vec<u8> {
     let length = bytes.len().to_be_bytes();
     let (beyond, length) = length.split_at(length.len() - width);
     assert!(beyond.iter().all(|&byte| byte == 0), "too long a part");
@@ -98,7 +98,7 @@ pub(super) fn sized(width: usize, bytes: &[u8]) -> Vec<u8> {
 }
 
 /// 16-bit numbers, highest byte first.
-pub(super) fn numbers(numbers: impl IntoIterator<Item = u16>) -> Vec<u8> {
+pub(crate) fn numbers(numbers: impl IntoIterator<Item = u16>) -> Vec<u8> {
     numbers.into_iter().flat_map(u16::to_be_bytes).collect()
 }
 
@@ -108,7 +108,7 @@ fn cut(bytes: &[u8], width: usize) -> (&[u8], &[u8]) {
     rest.split_at(big_endian(length))
 }
 
-pub(super) fn big_endian(bytes: &[u8]) -> usize {
+pub(crate) fn big_endian(bytes: &[u8]) -> usize {
     let number = |before, byte: &u8| before << 8 | usize::from(*byte);
     bytes.iter().fold(0, number)
 }

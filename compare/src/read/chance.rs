@@ -6,14 +6,14 @@ use crate::random::Random;
 use std::collections::HashSet;
 
 /// The types whose bodies are read.
-const READ: [u16; 7] = [0x0000, 0x000a, 0x000d, 0x0010, 0x002b, 0x0033, 0x0039];
+pub(crate) const READ: [u16; 7] = [0x0000, 0x000a, 0x000d, 0x0010, 0x002b, 0x0033, 0x0039];
 /// The most entries of a list, and of ALPN.
 const ENTRIES: usize = 64;
 const NAMES: usize = 16;
 
 /// A hello with as many of the extensions that were drawn as fit into `room` bytes. With no extension it may be longer than
 /// `room`, by up to 460 bytes.
-pub(super) fn hello(room: usize, random: &mut Random) -> Vec<u8> {
+pub(crate) fn hello(room: usize, random: &mut Random) -> Vec<u8> {
     let mut parts = head(random);
     let mut left = room.saturating_sub(parts.hello().len());
     for extension in extensions(random) {

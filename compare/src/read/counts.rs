@@ -9,7 +9,7 @@ pub(super) const UNREAD: u16 = 0x5000;
 
 /// Each count of suites, groups, algorithms, versions, names, key shares, ids and extensions. 127 versions are the most that
 /// the length can say.
-pub(super) fn hellos() -> Vec<Vec<u8>> {
+pub(crate) fn hellos() -> Vec<Vec<u8>> {
     let mut list = Vec::new();
     for count in COUNTS {
         list.push(suites(count).hello());
@@ -31,7 +31,7 @@ pub(super) fn hellos() -> Vec<Vec<u8>> {
     list
 }
 
-pub(super) fn suites(count: u16) -> Parts {
+pub(crate) fn suites(count: u16) -> Parts {
     Parts {
         suites: numbers(run(count)),
         ..Parts::plain(&[])
@@ -44,25 +44,25 @@ pub(super) fn run(count: u16) -> std::ops::Range<u16> {
 }
 
 /// A body that is a list of so many numbers, with its length of `width` bytes.
-pub(super) fn sixteen_bits(width: usize, count: u16) -> Vec<u8> {
+pub(crate) fn sixteen_bits(width: usize, count: u16) -> Vec<u8> {
     sized(width, &numbers(run(count)))
 }
 
 /// ALPN with so many names.
-pub(super) fn names(count: u16) -> Extension {
+pub(crate) fn names(count: u16) -> Extension {
     let name = sized(1, b"x");
     Extension::new(0x0010, sized(2, &name.repeat(usize::from(count))))
 }
 
 /// Keys of one byte.
-pub(super) fn key_shares(count: u16) -> Extension {
+pub(crate) fn key_shares(count: u16) -> Extension {
     let share = |group: u16| [&group.to_be_bytes()[..], &sized(2, b"k")].concat();
     let shares: Vec<u8> = run(count).flat_map(share).collect();
     Extension::new(0x0033, sized(2, &shares))
 }
 
 /// Parameters without values.
-pub(super) fn ids(ids: impl IntoIterator<Item = u64>) -> Extension {
+pub(crate) fn ids(ids: impl IntoIterator<Item = u64>) -> Extension {
     let mut body = Vec::new();
     for id in ids {
         varint::write(&mut body, id);
@@ -72,7 +72,7 @@ pub(super) fn ids(ids: impl IntoIterator<Item = u64>) -> Extension {
 }
 
 /// So many extensions without bodies.
-pub(super) fn extensions(count: u16) -> Vec<Extension> {
+pub(crate) fn extensions(count: u16) -> Vec<Extension> {
     let kinds = UNREAD..UNREAD + count;
     kinds.map(|kind| Extension::new(kind, Vec::new())).collect()
 }

@@ -11,7 +11,7 @@ const PARAMETERS: u16 = 0x0039;
 const WIDEST: usize = 8;
 
 /// All that is done to one hello, but for random changes.
-pub(super) fn all(hello: &[u8]) -> Vec<Vec<u8>> {
+pub(crate) fn all(hello: &[u8]) -> Vec<Vec<u8>> {
     let mut list = Vec::new();
     for length in lengths(hello) {
         list.extend(length.changed(hello));
@@ -26,7 +26,7 @@ pub(super) fn all(hello: &[u8]) -> Vec<Vec<u8>> {
 }
 
 /// One byte changed.
-pub(super) fn change(hello: &[u8], random: &mut Random) -> Vec<u8> {
+pub(crate) fn change(hello: &[u8], random: &mut Random) -> Vec<u8> {
     let mut changed = hello.to_vec();
     changed[random.below(hello.len())] ^= 1 + random.below(255) as u8;
     changed

@@ -13,7 +13,7 @@ const SESSION_ID: usize = 32;
 const UNREAD: usize = 2 + 32;
 
 /// The report, or the number of the first question that is answered "no".
-pub(super) fn read(hello: &[u8]) -> Result<Report, u64> {
+pub(crate) fn read(hello: &[u8]) -> Result<Report, u64> {
     let mut rest = Part {
         hello,
         at: 0,

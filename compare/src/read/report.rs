@@ -5,28 +5,28 @@ use crate::script::Text;
 use std::fmt::{Display, Formatter, Result};
 
 /// A name in a hello: where it begins, and its bytes.
-pub(super) struct Name {
-    pub(super) start: usize,
-    pub(super) bytes: Vec<u8>,
+pub(crate) struct Name {
+    pub(crate) start: usize,
+    pub(crate) bytes: Vec<u8>,
 }
 
 #[derive(Default)]
-pub(super) struct Report {
-    pub(super) session_id_length: usize,
-    pub(super) cipher_suites: Vec<u16>,
-    pub(super) extensions: Vec<u16>,
-    pub(super) supported_groups: Vec<u16>,
-    pub(super) key_share_groups: Vec<u16>,
-    pub(super) signature_algorithms: Vec<u16>,
-    pub(super) supported_versions: Vec<u16>,
-    pub(super) alpn: Vec<Name>,
-    pub(super) name: Option<Name>,
-    pub(super) transport_parameters: Vec<u64>,
+pub(crate) struct Report {
+    pub(crate) session_id_length: usize,
+    pub(crate) cipher_suites: Vec<u16>,
+    pub(crate) extensions: Vec<u16>,
+    pub(crate) supported_groups: Vec<u16>,
+    pub(crate) key_share_groups: Vec<u16>,
+    pub(crate) signature_algorithms: Vec<u16>,
+    pub(crate) supported_versions: Vec<u16>,
+    pub(crate) alpn: Vec<Name>,
+    pub(crate) name: Option<Name>,
+    pub(crate) transport_parameters: Vec<u64>,
 }
 
 impl Report {
     /// The same as the original holds it: names as text, and nothing of where they stand.
-    pub(super) fn fingerprint(&self) -> Fingerprint {
+    pub(crate) fn fingerprint(&self) -> Fingerprint {
         let text = |name: &Name| String::from_utf8_lossy(&name.bytes).into_owned();
         Fingerprint {
             legacy_session_id_len: self.session_id_length,

@@ -1,5 +1,6 @@
 -- The answer to each command, part by part, in the words of the script language.
 use Prim.Native.Nat.{ℕ}
+use mathlib.Core.Bool.{Bool, true, false}
 use mathlib.Core.List.{List, [], _∷_, _++_}
 use Rattle.wire.specs.Answer.{Answer, result, refused}
 use Rattle.varint.specs.declared.Varint.{Varint}
@@ -42,6 +43,14 @@ nextWord = 110 ∷ 101 ∷ 120 ∷ 116 ∷ space ∷ []
 -- "end"
 abbrev pub endWord : List ℕ
 endWord = 101 ∷ 110 ∷ 100 ∷ []
+
+-- "yes"
+abbrev pub yesWord : List ℕ
+yesWord = 121 ∷ 101 ∷ 115 ∷ []
+
+-- "no"
+abbrev pub noWord : List ℕ
+noWord = 110 ∷ 111 ∷ []
 
 -- "refused "
 abbrev pub refusedWord : List ℕ
@@ -103,3 +112,8 @@ splitting (refused n) part = number n
 abbrev pub reportAnswer : Answer ClientHello → List (List ℕ)
 reportAnswer (result v) = reportText (report v)
 reportAnswer (refused n) = refusedWord ∷ decimalText n ∷ []
+
+-- "`yes` or `no`"
+abbrev pub alikeParts : Bool → List (List ℕ)
+alikeParts true = yesWord ∷ []
+alikeParts false = noWord ∷ []

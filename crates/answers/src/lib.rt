@@ -7,10 +7,11 @@ ghost use Rattle.frames.specs.Cut.{framesOf, cutOf, afterCut};
 ghost use Rattle.records.specs.Records.{recordAt, recordOf};
 ghost use Rattle.fingerprint.specs.Reader.{read};
 ghost use Rattle.fingerprint.specs.Calls.{nameOr, extensionSet};
+ghost use Rattle.alike.specs.Alike.{alike};
 ghost use Rattle.reports.specs.Lines.{nameAnswer, setText};
 ghost use lib.ListN.{length};
 ghost use Rattle.answers.specs.Said.{plain, hands, plainly, handing, Says, Hands};
-ghost use Rattle.answers.specs.Answers.{sizeParts, writeParts, readParts, makeParts, joinParts, framesParts, splitParts, splitting, reportAnswer};
+ghost use Rattle.answers.specs.Answers.{sizeParts, writeParts, readParts, makeParts, joinParts, framesParts, splitParts, splitting, reportAnswer, alikeParts};
 use fingerprint::reading::extension_set;
 use fingerprint::reading::name_or;
 use fingerprint::reading::parse_clienthello;
@@ -208,4 +209,14 @@ pub fn say_set(hello: &[u8], out: &mut [u8]) -> Said
 {
     let types = extension_set(hello);
     Said::Answer(put_set(out, types))
+}
+
+// alike HELLO HELLO
+pub fn say_alike(a: &[u8], b: &[u8], out: &mut [u8]) -> Said
+    ensures { λ r. ⌜ Says plain (alikeParts (alike (read (now (a .entry))) (read (now (b .entry))))) r (now (out .entry)) (now (out .exit)) ⌝ }
+{
+    if alike::alike(a, b) {
+        return Said::Answer(put_text(out, b"yes"));
+    }
+    Said::Answer(put_text(out, b"no"))
 }

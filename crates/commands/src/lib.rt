@@ -49,5 +49,8 @@ pub fn command(line: &[u8], last: &mut [u8], kept: usize, out: &mut [u8]) -> Sai
     if check::same(name, b"set") {
         return reader::set(line, &last[0..kept], out);
     }
+    if check::same(name, b"alike") {
+        return reader::alike(line, &last[0..kept], out);
+    }
     Said::Error(Fault::NoCommand)
 }

@@ -1,4 +1,4 @@
-// The commands of the reader: report, name, set.
+// The commands of the reader: report, name, set; and alike, which reads two hellos.
 ghost use Prim.Native.Nat.{_≤_};
 ghost use lib.ListN.{length};
 ghost use Rattle.commands.specs.Bounds.{Fits};
@@ -60,6 +60,30 @@ pub fn set(line: &[u8], last: &[u8], out: &mut [u8]) -> Said
     let mut hello = room();
     match read_operand(word_at(line, 1), last, &mut hello) {
         Operand::Bytes(n) => answers::say_set(&hello[0..n], out),
+        Operand::Unread(fault) => Said::Error(fault),
+    }
+}
+
+// alike HELLO HELLO, an operand after the other
+pub fn alike(line: &[u8], last: &[u8], out: &mut [u8]) -> Said
+    ensures { λ r. ⌜ Fits 0 0 (length (now (out .entry))) r ⌝ }
+{
+    if !has_operands(line, 2) {
+        return Said::Error(Fault::Count);
+    }
+    let mut hello = room();
+    match read_operand(word_at(line, 1), last, &mut hello) {
+        Operand::Bytes(n) => alike_to(line, &hello[0..n], last, out),
+        Operand::Unread(fault) => Said::Error(fault),
+    }
+}
+
+fn alike_to(line: &[u8], hello: &[u8], last: &[u8], out: &mut [u8]) -> Said
+    ensures { λ r. ⌜ Fits 0 0 (length (now (out .entry))) r ⌝ }
+{
+    let mut other = room();
+    match read_operand(word_at(line, 2), last, &mut other) {
+        Operand::Bytes(n) => answers::say_alike(hello, &other[0..n], out),
         Operand::Unread(fault) => Said::Error(fault),
     }
 }

@@ -1,5 +1,6 @@
 // The calls for compare/, which holds them against the Rust: numbers and byte slices, with C's calling convention.
 ghost use mathlib.Core.Path.{_≡_};
+ghost use mathlib.Core.Bool.{cond};
 ghost use Prim.Native.Nat.{_^_};
 ghost use Rattle.wire.specs.Answer.{coded};
 ghost use Rattle.varint.specs.Varint.{sizeOf, readOf};
@@ -7,6 +8,7 @@ ghost use Rattle.records.specs.Records.{recordAt};
 ghost use Rattle.fingerprint.specs.Reader.{read};
 ghost use Rattle.fingerprint.specs.Calls.{extensionSet};
 ghost use Rattle.fingerprint.specs.Report.{parsedOf};
+ghost use Rattle.alike.specs.Alike as definition;
 ghost use Rattle.reports.specs.Lines.{setText};
 ghost use Rattle.compare_c.specs.Sums.{codedValue, codedWidth, sumOf, PutCoded};
 ghost use Rattle.compare_c.specs.Calls.{lengthOf, drawnOf, codedNext, JoinCoded, CutCoded, MakeCoded, PartCoded};
@@ -196,6 +198,14 @@ pub extern "C" fn compare_set(hello: &[u8], out: &mut [u8]) -> u64
         Said::Refused(n, _) => n as u64,
         Said::Error(_) => 0,
     }
+}
+
+// 1 where the two hellos are alike, else 0.
+#[no_mangle]
+pub extern "C" fn compare_alike(a: &[u8], b: &[u8]) -> u64
+    ensures { λ r. ⌜ r ≡ cond (definition.alike (read (now (a .entry))) (read (now (b .entry)))) 1 0 ⌝ }
+{
+    if alike::alike(a, b) { 1 } else { 0 }
 }
 
 // A 16-bit number added to a sum, modulo 2^64.

@@ -11,7 +11,8 @@ use Rattle.fingerprint_bodies.specs.Body.{Body, kind}
 use Rattle.fingerprint_bodies.specs.Entries.{mapped}
 use Rattle.fingerprint_lists.specs.Arrays.{placed}
 use Rattle.fingerprint.specs.Report.{numbersIn, namesIn, gathered, blockPlace, firstOf}
-use Rattle.read_back.specs.Shown.{alikeId, profileIds, carried, bytesOf}
+use Rattle.alike.specs.Alike.{alikeId, bytesOf}
+use Rattle.read_back.specs.Shown.{profileIds, carried}
 use Rattle.read_back.proofs.Value.{madeBody, madeValue}
 use Rattle.read_back.proofs.ShareLaws.{shares-groups}
 use Rattle.read_back.proofs.ParameterLaws.{alike-ids}

@@ -27,7 +27,8 @@ use Rattle.tls.proofs.Sent.{all-permutes}
 use Rattle.fingerprint_bodies.specs.Body.{encodeParameter, encodeParameters}
 use Rattle.fingerprint_bodies.specs.Conditions.{All, FormedParameter, FormedParameters}
 use Rattle.fingerprint_bodies.specs.Forms.{idOf}
-use Rattle.read_back.specs.Shown.{alikeId, alikeParameter, profileIds}
+use Rattle.alike.specs.Alike.{alikeId}
+use Rattle.read_back.specs.Shown.{alikeParameter, profileIds}
 use Rattle.read_back.proofs.ByteLaws.{bytes-drawn, bytes-shortest, bytes-version-information}
 use Rattle.read_back.proofs.Value.{madeParameter}
 

@@ -1,5 +1,5 @@
 -- WHAT IS MADE IS A WELL-FORMED CLIENTHELLO, AND ITS REPORT SHOWS THE PROFILE AND THE NAME. Assumes nothing.
-use Prim.Native.Nat.{ℕ, _+_, _≤_, _<_}
+use Prim.Native.Nat.{ℕ, _+_, _≤_}
 use mathlib.Core.Path.{_≡_, refl, sym, ap}
 use mathlib.Core.Bool.{Bool, true, false, cond}
 use mathlib.Core.List.{List, [], _∷_, _++_, map, append-assoc}
@@ -26,7 +26,8 @@ use Rattle.fingerprint_bodies.specs.Conditions.{All}
 use Rattle.fingerprint.specs.ClientHello.{typeOf, encodeExtensions, encodeFields, encode, FormedExtension, WellFormed}
 use Rattle.fingerprint.specs.Report.{Report, report}
 use Rattle.fingerprint.proofs.WellFormed.{read-encoded}
-use Rattle.read_back.specs.Shown.{alikeId, carried, Shows, Asked, Made, ReadBack}
+use Rattle.alike.specs.Alike.{alikeId}
+use Rattle.read_back.specs.Shown.{carried, Shows, Asked, Made, ReadBack}
 use Rattle.read_back.proofs.ByteLaws.{bytes-nil, bytes-cons, bytes-digits, bytes-drawn}
 use Rattle.read_back.proofs.Value.{madeExtension, madeExtensions, madeValue}
 use Rattle.read_back.proofs.BodyLaws.{formed-words, extension-bytes, formed-extension}

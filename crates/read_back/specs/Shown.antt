@@ -1,11 +1,10 @@
 -- A made hello, read: the reader's report shows the profile and the name (document 01, "Alike" and "The third demand's words").
-use Prim.Native.Nat.{ℕ, _%_, _≤_}
+use Prim.Native.Nat.{ℕ, _≤_}
 use mathlib.Core.Path.{_≡_}
 use mathlib.Core.Bool.{true, cond}
 use mathlib.Core.List.{List, [], map}
 use mathlib.Core.Option.{some}
 use lib.ListN.{length}
-use lib.Dec.{eqb}
 use Rattle.wire.specs.Answer.{result}
 use Rattle.wire.specs.Numbers.{Bytes}
 use Rattle.wire.specs.Sums.{Permutation, member}
@@ -14,16 +13,12 @@ use Rattle.profiles.specs.Sizes.{sessionLength}
 use Rattle.profiles.specs.Test.{passes}
 use Rattle.tls.specs.Hello.{order, hello}
 use Rattle.fingerprint_bodies.specs.Entries.{mapped}
-use Rattle.fingerprint_lists.specs.Arrays.{Part}
 use Rattle.fingerprint.specs.ClientHello.{ClientHello, encode, WellFormed}
 use Rattle.fingerprint.specs.Reader.{read}
 use Rattle.fingerprint.specs.Report.{Report, report}
+use Rattle.alike.specs.Alike.{alikeId, bytesOf}
 
 -- ---- Ids of parameters, "as in Alike"
-
--- "each id that is 27 mod 31 counting as 27"
-unfoldable pub alikeId : ℕ → ℕ
-alikeId x = cond (eqb (x % 31) 27) 27 x
 
 -- "each id that is 27 mod 31, GREASE too, counts as 27"
 unfoldable pub alikeParameter : Parameter → ℕ
@@ -41,9 +36,6 @@ profileIds p = map alikeParameter (p .quicTp)
 -- a list that stands in the extension of a type: there is none where that type is not among the profile's
 unfoldable pub carried : {A : Type 0} → Profile → ℕ → List A → List A
 carried p t l = cond (member t (p .extensionsOrder)) l []
-
-abbrev pub bytesOf : Part → List ℕ
-bytesOf q = q .bytes
 
 -- Session id length, suites, groups, key-share groups, signature algorithms, versions and ALPN are the profile's, in order, and the name is
 -- the name. Extension types and parameter ids are the profile's "with order put aside and repeats counted". A permutation of no ids is no

@@ -237,8 +237,38 @@ returns-10 c =
     let set = c .before .before .set in
     wider _ _ _ _ _ (omega (arith, pre)) (le-refl _) (set .ensures)
 
+slice-aggregate-same-11 : tie.Need-slice-aggregate-same-11
+slice-aggregate-same-11 c = search needs
+
+same-requires-11 : tie.Need-same-requires-11
+same-requires-11 c κs = search needs
+
+sub-alike : tie.Need-sub-alike
+sub-alike c = search needs
+
+part-alike-start : tie.Need-part-alike-start
+part-alike-start c = search needs
+
+part-alike-end : tie.Need-part-alike-end
+part-alike-end c = omega (arith, c .before .before .before .before .before .before .before .before .before .before .before .before .before .before .before .before .before .before .before .before .before .before .before .before .before .before .before .before .before .before .before .before .before .before .before .before .before .before .pre)
+
+alike-requires : tie.Need-alike-requires
+alike-requires c κs = search needs
+
+same-length-20 : tie.Need-same-length-20
+same-length-20 c = search needs
+
+same-length-21 : tie.Need-same-length-21
+same-length-21 c = search needs
+
 returns-11 : tie.Need-returns-11
-returns-11 c = record { text = omega arith; held = omega (arith, c .before .before .before .before .before .before .before .before .before .before .before .before .before .before .before .before .before .before .before .before .before .before .before .before .before .before .before .before .before .before .before .before .before .before .pre) }
+returns-11 c =
+    let pre = c .before .before .before .before .before .before .before .before .before .before .before .before .before .before .before .before .before .before .before .before .before .before .before .before .before .before .before .before .before .before .before .before .before .before .before .before .before .before .before .before .before .before .before .pre in
+    let alike = c .before .before .alike in
+    wider _ _ _ _ _ (omega (arith, pre)) (le-refl _) (alike .ensures)
+
+returns-12 : tie.Need-returns-12
+returns-12 c = record { text = omega arith; held = omega (arith, c .before .before .before .before .before .before .before .before .before .before .before .before .before .before .before .before .before .before .before .before .before .before .before .before .before .before .before .before .before .before .before .before .before .before .before .before .before .pre) }
 
 pub command-spec : {M : Type 1} → statement M
 command-spec =
@@ -316,4 +346,13 @@ command-spec =
     same-length-18
     same-length-19
     returns-10
-    returns-11)
+    slice-aggregate-same-11
+    same-requires-11
+    sub-alike
+    part-alike-start
+    part-alike-end
+    alike-requires
+    same-length-20
+    same-length-21
+    returns-11
+    returns-12)

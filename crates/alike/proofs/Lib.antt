@@ -1,0 +1,7 @@
+pub mod SameLaws
+pub mod AlikeLaws
+pub mod AnswerLaws
+pub mod PlaceLaws
+pub mod CountLaws
+pub mod ShownAlike
+pub mod Samples

@@ -1,0 +1,5 @@
+pub mod ProfileLaws
+pub mod MadeLaws
+pub mod ThirdDemand
+pub mod Witness
+pub mod RunLaws

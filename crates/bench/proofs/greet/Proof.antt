@@ -1,0 +1,72 @@
+-- `bench::greet` meets its contract: each call's answer and buffer are those of the call. Assumes nothing.
+use Prim.Native.Nat.{ℕ}
+use mathlib.Core.Path.{ap, _∙_}
+use mathlib.Core.List.{List}
+use native.Mathlib.Omega.{arith}
+use Rattle.fingerprint.specs.Reader.{read}
+use Rattle.fingerprint.specs.Report.{parsedOf}
+use Rattle.bench.proofs.RunLaws.{end-inside, front-part}
+use borrow.Author.Needs.{needs}
+use Rattle.bench.proofs.greet.Statement.{statement}
+use Rattle.bench.proofs.greet.Tie as tie
+
+generate-client-hello-requires : tie.Need-generate-client-hello-requires
+generate-client-hello-requires c κs = search needs
+
+reassemble-crypto-requires : tie.Need-reassemble-crypto-requires
+reassemble-crypto-requires c κs = search needs
+
+end-of-requires : tie.Need-end-of-requires
+end-of-requires c κs = search needs
+
+sub-parse-clienthello : tie.Need-sub-parse-clienthello
+sub-parse-clienthello c = search needs
+
+part-parse-clienthello-start : tie.Need-part-parse-clienthello-start
+part-parse-clienthello-start c = search needs
+
+part-parse-clienthello-end : tie.Need-part-parse-clienthello-end
+part-parse-clienthello-end c =
+    let joined = c .before .before .before .before .before .before .reassemble-crypto in
+    omega (arith, end-inside (joined .ensures), joined .kept)
+
+parse-clienthello-requires : tie.Need-parse-clienthello-requires
+parse-clienthello-requires c κs = search needs
+
+same-length : tie.Need-same-length
+same-length c = search needs
+
+same-length-2 : tie.Need-same-length-2
+same-length-2 c = search needs
+
+same-length-3 : tie.Need-same-length-3
+same-length-3 c = search needs
+
+returns : tie.Need-returns
+returns c =
+    let made = c .before .before .before .before .before .before .before .before .before .before .before .before .before .generate-client-hello in
+    let joined = c .before .before .before .before .before .before .before .before .reassemble-crypto in
+    let end = c .before .before .before .end-of in
+    let parsed = c .parse-clienthello in
+    let out : List ℕ = joined .last .1 .0 in
+    record {
+      made = made .ensures;
+      joined = joined .ensures;
+      report = parsed .ensures ∙ ap (λ (h : List ℕ). parsedOf (read h)) (front-part (joined .result) (end .result) out (end .ensures));
+    }
+
+pub greet-spec : {M : Type 1} → statement M
+greet-spec =
+    tie.close
+    (tie.spec
+    generate-client-hello-requires
+    reassemble-crypto-requires
+    end-of-requires
+    sub-parse-clienthello
+    part-parse-clienthello-start
+    part-parse-clienthello-end
+    parse-clienthello-requires
+    same-length
+    same-length-2
+    same-length-3
+    returns)
