@@ -74,7 +74,7 @@ fn ask_changed(sides: &mut Sides<Question>, random: &mut Random) {
     let mut asked = 0;
     while asked < CHANGED {
         let (alike, change) = CHANGES[asked % CHANGES.len()];
-        let first = changes::ground(&by_chance(random), random);
+        let first = changes::with_reserved_ids(&by_chance(random), random);
         let mut second = first.clone();
         if change(&mut second, random).is_some() {
             asked += usize::from(ask_known(sides, first.hello(), second.hello(), alike));

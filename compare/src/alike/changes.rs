@@ -8,7 +8,7 @@ use super::pieces::{Piece, Pieces};
 use crate::random::Random;
 use crate::read::chance::READ;
 
-pub(super) use ids::ground;
+pub(super) use ids::with_reserved_ids;
 
 /// Changes one thing of a hello. `None` where the hello has no such thing, or where nothing would change.
 type Change = fn(&mut Pieces, &mut Random) -> Option<()>;

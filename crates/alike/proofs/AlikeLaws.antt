@@ -3,7 +3,7 @@
 use Prim.Native.Nat.{ℕ}
 use mathlib.Core.Path.{_≡_, refl, sym, _∙_}
 use mathlib.Core.Logic.{_↔_}
-use mathlib.Core.Bool.{true, false≢true}
+use mathlib.Core.Bool.{Bool, true, false, false≢true}
 use mathlib.Core.List.{List}
 use lib.Dec.{eqb}
 use Rattle.wire.specs.Answer.{Answer, result, refused}
@@ -139,9 +139,18 @@ on {a} {b} {c} s t =
     let same-value = same-result (s .second .value) (t .first .value) (sym (s .second .is) ∙ t .first .is) in
     record { first = s .first; second = t .second; same = same-on (rw same-value at (s .same)) (t .same) }
 
+-- two answers of which each says yes where the other does
+same-answer : (x y : Bool) → (x ≡ true → y ≡ true) → (y ≡ true → x ≡ true) → x ≡ y
+same-answer true y f g = sym (f refl)
+same-answer false true f g = g refl
+same-answer false false f g = refl
+
 -- SYMMETRIC
-pub symmetric : (a b : List ℕ) → alike (read a) (read b) ≡ true → alike (read b) (read a) ≡ true
-symmetric a b e = alike-of b a (back (alike-to a b (read a) (read b) refl refl e))
+pub symmetric : (a b : List ℕ) → alike (read a) (read b) ≡ alike (read b) (read a)
+symmetric a b =
+    same-answer (alike (read a) (read b)) (alike (read b) (read a))
+    (λ e. alike-of b a (back (alike-to a b (read a) (read b) refl refl e)))
+    (λ e. alike-of a b (back (alike-to b a (read b) (read a) refl refl e)))
 
 -- TRANSITIVE
 pub transitive : (a b c : List ℕ) → alike (read a) (read b) ≡ true → alike (read b) (read c) ≡ true → alike (read a) (read c) ≡ true
