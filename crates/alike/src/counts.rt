@@ -40,13 +40,14 @@ fn equally_often(a: &[u64], b: &[u64], items: &[u64]) -> bool
     true
 }
 
+// Each number stands as often in a as in b. Where the two have the same length, it is enough to ask it of the numbers of a.
 fn same_counts(a: &[u64], b: &[u64]) -> bool
     ensures { λ r. ⌜ r ≡ sameCounts (now (a .entry)) (now (b .entry)) ⌝ }
 {
-    if !equally_often(a, b, a) {
+    if a.len() != b.len() {
         return false;
     }
-    equally_often(a, b, b)
+    equally_often(a, b, a)
 }
 
 // The numbers of the first `n` types, and zeros after them.

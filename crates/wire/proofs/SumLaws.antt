@@ -161,7 +161,7 @@ unfolding sameCounts
 sameCounts-of a b h = rw (equallyOften-of a b h a, equallyOften-of a b h b)
 
 -- equal bags have equal counts: what a yes of `sameCounts` says
-equallyOften-at : (a b l : List ℕ) (x : ℕ) → equallyOften a b l ≡ true → 0 < count x l → count x a ≡ count x b
+pub equallyOften-at : (a b l : List ℕ) (x : ℕ) → equallyOften a b l ≡ true → 0 < count x l → count x a ≡ count x b
 unfolding equallyOften
 equallyOften-at a b [] x e h = absurd (omega (arith, member-some x [] (member-nil x)))
 equallyOften-at a b (y ∷ l) x e h =
