@@ -20,7 +20,7 @@ use Rattle.fingerprint.specs.Reader.{read}
 use Rattle.fingerprint.specs.Report.{report, parsedOf}
 use Rattle.alike.specs.Alike.{alike}
 use Rattle.bench.specs.Demand.{Greeting, helloOf, frontOf, receivedOf, Sent, Arrives}
-use Rattle.bench.specs.Run.{endOr0, Handed, leftIn, Went, Carried, CameThrough, RunDemand, Ran}
+use Rattle.bench.specs.Run.{endOr0, Handed, leftIn, Went, Carried, Arrived, RunDemand, Ran}
 use Rattle.bench.specs.declared.Greeted.{Greeted}
 use Rattle.bench.specs.declared.Outcome.{Outcome}
 use Rattle.bench.proofs.ThirdDemand.{third-demand}
@@ -94,9 +94,9 @@ module _ {s : Handed} {marks : List ℕ} {r : Greeted} {hello out marks′ : Lis
   pub received : leftIn r out ≡ receivedOf greeting
   received = ap₂ frontOf answer-is output-is
 
-  pub came-through : Arrives greeting → CameThrough s (c .answer .length) r hello out
+  pub arrived : Arrives greeting → Arrived s (c .answer .length) r hello out
   unfolding parsedOf
-  came-through a =
+  arrived a =
       record {
         joined = joined-end (r .joined) (c .answer .length) (answer-is ∙ a .joined ∙ ap result long);
         output = output-is ∙ a .output ∙ ap₂ (λ (h : List ℕ) (n : ℕ). h ++ replicate (length (s .out) - n) 0) (sym wrote) long;
@@ -117,8 +117,8 @@ module _ {s t : Handed} {marks marks₁ marks₂ : List ℕ} {r : Outcome} {hell
       let demand = third-demand (greeting v c) (greeting w d) (sent v c scid-bytes tape-bytes) (sent w d scid-bytes₂ tape-bytes₂) in
       let same = verdict ∙ ap₂ (λ (a b : List ℕ). alike (read a) (read b)) (received v c) (received w d) in
       record {
-        first = came-through v c (demand .first);
-        second = came-through w d (demand .second);
+        first = arrived v c (demand .first);
+        second = arrived w d (demand .second);
         verdict = (λ e. demand .verdict .0 (sym same ∙ e), λ e. same ∙ demand .verdict .1 e);
       }
 

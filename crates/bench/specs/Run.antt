@@ -21,6 +21,7 @@ use Rattle.bench.specs.Demand.{Reported, frontOf}
 use Rattle.bench.specs.declared.Greeted.{Greeted}
 use Rattle.bench.specs.declared.Outcome.{Outcome}
 
+-- how many bytes at the front of the output the joiner filled; none where it refused
 abbrev pub endOr0 : Joined → ℕ
 endOr0 (joined.End e) = e
 endOr0 (joined.Refused n) = 0
@@ -64,7 +65,7 @@ pub record Carried (s : Handed) (marks : List ℕ) (r : Greeted) (hello : List �
   pub marks-room : limit ≤ length marks
 
 -- the joiner's answer is the length of what the maker wrote, its output that and then zeros, and the report shows profile and name
-pub record CameThrough (s : Handed) (n : ℕ) (r : Greeted) (hello out : List ℕ) : Type 0 where
+pub record Arrived (s : Handed) (n : ℕ) (r : Greeted) (hello out : List ℕ) : Type 0 where
   pub joined : r .joined ≡ joined.End n
   pub output : out ≡ take n hello ++ replicate (length (s .out) - n) 0
   pub report : Report
@@ -72,8 +73,8 @@ pub record CameThrough (s : Handed) (n : ℕ) (r : Greeted) (hello out : List �
   pub reported : Reported (forBrowser (s .browser)) (s .name) report
 
 pub record RunDemand (s t : Handed) (n m : ℕ) (r : Outcome) (hello out other-hello other-out : List ℕ) : Type 0 where
-  pub first : CameThrough s n (r .first) hello out
-  pub second : CameThrough t m (r .second) other-hello other-out
+  pub first : Arrived s n (r .first) hello out
+  pub second : Arrived t m (r .second) other-hello other-out
   pub verdict : r .alike ≡ true ↔ ((s .browser ≡ t .browser) × (s .name ≡ t .name))
 
 -- ---- The run
