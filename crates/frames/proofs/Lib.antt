@@ -12,6 +12,7 @@ pub mod CarryLaws
 pub mod PlacingLaws
 pub mod StepLaws
 pub mod JoinLaws
+pub mod PaddingLaws
 pub mod RoomLaws
 pub mod CutLaws
 pub mod CutJoined

@@ -1,5 +1,5 @@
 -- How output and marks carry the pieces placed so far: what the private functions of the joiner promise each other.
-use Prim.Native.Nat.{ℕ, _+_, _≤_}
+use Prim.Native.Nat.{ℕ, _+_, _≤_, _<_}
 use mathlib.Core.Path.{_≡_}
 use mathlib.Core.Bool.{Bool, not, _||_}
 use mathlib.Core.List.{List}
@@ -38,6 +38,17 @@ markedAt marks i = not (eqb (getD marks i 0) 0)
 
 unfoldable pub marked : List ℕ → Bool
 marked marks = each (markedAt marks) 0 (length marks)
+
+-- bytes 00, and how many of them stand at the front
+abbrev pub zeroAt : List ℕ → ℕ → Bool
+zeroAt bs i = eqb (getD bs i 0) 0
+
+unfoldable pub zeros : List ℕ → Bool
+zeros bs = each (zeroAt bs) 0 (length bs)
+
+pub record Padding (n : ℕ) (bs : List ℕ) : Type 0 where
+  pub within : n ≤ length bs
+  pub zero : (i : ℕ) → i < n → getD bs i 0 ≡ 0
 
 -- questions 13 and 14, asked of the buffers
 unfoldable pub placeOn : ℕ → List ℕ → List ℕ → List ℕ → Answer ℕ

@@ -3,7 +3,7 @@ ghost use Prim.Native.Nat.{_+_, _≤_, _<_, max};
 ghost use mathlib.Core.Path.{_≡_};
 ghost use lib.ListN.{length, replicate};
 ghost use Rattle.frames.specs.Join.{limit, roomy, Joins};
-ghost use Rattle.frames.specs.Buffers.{agreeing, marked, Placing, Stepping, Joining};
+ghost use Rattle.frames.specs.Buffers.{agreeing, marked, zeros, Padding, Placing, Stepping, Joining};
 use crate::reading::FrameRead;
 use crate::reading::read_frame;
 
@@ -61,6 +61,42 @@ fn all_marked(marks: &[u8]) -> bool
     good
 }
 
+// Whether every byte is 00.
+fn all_zero(block: &[u8]) -> bool
+    ensures { λ r. ⌜ r ≡ zeros (now (block .entry)) ⌝ }
+{
+    let mut good = true;
+    let mut i: usize = 0;
+    while i < block.len() {
+        good = good & (block[i] == 0);
+        i = i + 1;
+    }
+    good
+}
+
+// How many bytes 00 stand at the front: PADDING frames, to be passed over together. First by blocks of 16, each of which is looked at as
+// one.
+fn padding(input: &[u8]) -> usize
+    ensures { λ r. ⌜ Padding r (now (input .entry)) ⌝ }
+{
+    let n = input.len();
+    let mut at: usize = 0;
+    while 16 <= n - at {
+        if all_zero(&input[at..at + 16]) {
+            at = at + 16;
+        } else {
+            break;
+        }
+    }
+    while at < n {
+        if input[at] != 0 {
+            return at;
+        }
+        at = at + 1;
+    }
+    at
+}
+
 // Places a piece at its offset, and gives its end: questions 13 and 14.
 fn place(offset: u64, piece: &[u8], out: &mut [u8], marks: &mut [u8]) -> Joined
     requires { ⌜ (limit ≤ length (now out)) × (limit ≤ length (now marks)) ⌝ }
@@ -108,7 +144,7 @@ fn join_frame(input: &[u8], out: &mut [u8], marks: &mut [u8], end: usize) -> Ste
     }
 }
 
-// All frames, onto cleared buffers: questions 11 to 15.
+// All frames, onto cleared buffers: questions 11 to 15. After a frame of one byte there may be much PADDING.
 fn join_all(frames: &[u8], out: &mut [u8], marks: &mut [u8]) -> Joined
     requires { ⌜ (limit ≤ length (now out)) × (limit ≤ length (now marks)) × (now out ≡ replicate (length (now out)) 0) × (now marks ≡ replicate (length (now marks)) 0) ⌝ }
     ensures { λ r. ⌜ Joining (now (frames .entry)) (now (out .entry)) (now (marks .entry)) r (now (out .exit)) (now (marks .exit)) ⌝ }
@@ -119,6 +155,9 @@ fn join_all(frames: &[u8], out: &mut [u8], marks: &mut [u8]) -> Joined
         match join_frame(&frames[at..], out, marks, end) {
             Step::Next(used, e) => {
                 at = at + used;
+                if used == 1 {
+                    at = at + padding(&frames[at..]);
+                }
                 end = e;
             }
             Step::Refused(n) => {
