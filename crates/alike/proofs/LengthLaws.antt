@@ -1,48 +1,14 @@
 -- Two lists of one length have the same counts where each number of the first stands as often in both; lists of two lengths have not.
 -- Assumes nothing.
-use Prim.Native.Nat.{ℕ, suc, _+_, _<_}
-use mathlib.Core.Path.{_≡_, refl, sym, ap}
-use mathlib.Core.Bool.{Bool, true, false, cond, _&&_}
+use Prim.Native.Nat.{ℕ, _<_}
+use mathlib.Core.Path.{_≡_, refl, sym}
+use mathlib.Core.Bool.{Bool, true, false, _&&_}
 use mathlib.Core.List.{List, [], _∷_}
 use native.Mathlib.Omega.{arith}
 use lib.ListN.{length}
-use lib.Dec.{eqb}
-use borrow.Author.Tests.{eq-eqb, eqb-true}
-use Rattle.wire.specs.Sums.{indicator, count, equallyOften, sameCounts}
-use Rattle.wire.proofs.SumLaws.{count-cons, member-nil, member-some, and-right, equallyOften-at, sameCounts-of, sameCounts-to}
-
--- ---- a list without the first x that stands in it
-
-unfoldable without : ℕ → List ℕ → List ℕ
-without x [] = []
-without x (y ∷ l) = cond (eqb x y) l (y ∷ without x l)
-
-none-stands : (x : ℕ) → count x [] ≡ 0
-none-stands x = member-some x [] (member-nil x)
-
-stands : (x : ℕ) (l : List ℕ) → count x (x ∷ l) ≡ 1 + count x l
-stands x l = rw (count-cons x x l, eq-eqb x x refl)
-
-count-without : (x : ℕ) (l : List ℕ) → 0 < count x l → (z : ℕ) → count z l ≡ indicator (eqb z x) + count z (without x l)
-unfolding without
-count-without x [] h z = absurd (omega (arith, none-stands x, h))
-count-without x (y ∷ l) h z = go (eqb x y) refl (count-without x l)
-  where
-    go : (b : Bool) → eqb x y ≡ b → (0 < count x l → (z : ℕ) → count z l ≡ indicator (eqb z x) + count z (without x l))
-        → count z (y ∷ l) ≡ indicator (eqb z x) + count z (cond b l (y ∷ without x l))
-    go true e more = rw (eqb-true x y e) (count-cons z y l)
-    go false e more =
-        omega (arith, count-cons z y l, count-cons z y (without x l), more (omega (arith, count-cons x y l, ap indicator e, h)) z)
-
-length-without : (x : ℕ) (l : List ℕ) → 0 < count x l → length l ≡ suc (length (without x l))
-unfolding without
-length-without x [] h = absurd (omega (arith, none-stands x, h))
-length-without x (y ∷ l) h = go (eqb x y) refl (length-without x l)
-  where
-    go : (b : Bool) → eqb x y ≡ b → (0 < count x l → length l ≡ suc (length (without x l)))
-        → suc (length l) ≡ suc (length (cond b l (y ∷ without x l)))
-    go true e more = refl
-    go false e more = ap suc (more (omega (arith, count-cons x y l, ap indicator e, h)))
+use Rattle.wire.specs.Sums.{count, equallyOften, sameCounts}
+use Rattle.wire.proofs.SumLaws.{count-cons, and-right, equallyOften-at, sameCounts-of, sameCounts-to}
+use Rattle.wire.proofs.CountLaws.{without, none-stands, stands, count-without, length-without}
 
 -- ---- number by number
 

@@ -48,9 +48,11 @@ there-asked (some l) t = refl
 no : (bs old new : List ℕ) (n : ℕ) → n ≡ asked parameters bs → (n ≡ 0 → ⊥) → length new ≡ 64 → AskedIds bs (record { number = n; ids = 0 }) old new
 no bs old new n e z l = record { is = e; count = λ q. absurd (z q); output = λ q. absurd (z q); size = l }
 
-pub asked-cut : (bs old new : List ℕ) → Kept (idsOf bs) count.Cut old new → AskedIds bs (record { number = 21; ids = 0 }) old new
+pub asked-cut : (bs old new : List ℕ) → length old ≡ 64 → Kept (idsOf bs) count.Cut old new
+    → AskedIds bs (record { number = 21; ids = 0 }) old new
 unfolding idsOf
-asked-cut bs old new h = no bs old new 21 (sym (asked-parameters bs ∙ cut (transportParameters bs) (h .is))) (λ z. omega (arith, z)) (h .size)
+asked-cut bs old new o h =
+    no bs old new 21 (sym (asked-parameters bs ∙ cut (transportParameters bs) (h .is))) (λ z. omega (arith, z)) (h .size ∙ o)
 
 module _ (bs old new : List ℕ) (k : ℕ) (h : Kept (idsOf bs) (count.Are k) old new) where
   all : Counts (transportParameters bs) k
@@ -69,28 +71,35 @@ module _ (bs old new : List ℕ) (k : ℕ) (h : Kept (idsOf bs) (count.Are k) ol
       ∙ there-asked (transportParameters bs) all-there
       ∙ ap (λ (n : ℕ). cond (distinct (idsIn bs)) (cond (leb n 64) 0 23) 22) (all .long)
 
-  -- all ids stand in the array where there are at most 64
-  written : k ≤ 64 → new ≡ front (idsIn bs) old
+  -- all ids stand in the array where it has room for them
+  written : k ≤ length old → new ≡ front (idsIn bs) old
   unfolding idsOf
   written few = h .output (idsIn bs) (ids-there (transportParameters bs) all-there) (omega (arith, few, ids-long))
 
-  kept-all : k ≤ 64 → take k new ≡ idsIn bs
+  pub kept-all : k ≤ length old → take k new ≡ idsIn bs
   kept-all few = rw (written few) (rw ids-long at (take-front (idsIn bs) old))
 
-  pub asked-good : k ≤ 64 → distinct (take k new) ≡ true → AskedIds bs (record { number = 0; ids = k }) old new
-  asked-good few d =
-      record {
-        is = sym (asked-is ∙ rw (sym (ap (λ (l : List ℕ). distinct l) (kept-all few)) ∙ d, le-leb k 64 few));
-        count = λ z. sym ids-long;
-        output = λ z. written few;
-        size = h .size;
-      }
+  kept-distinct : k ≤ length old → distinct (take k new) ≡ distinct (idsIn bs)
+  kept-distinct few = ap (λ (l : List ℕ). distinct l) (kept-all few)
 
-  pub asked-few : k ≤ 64 → distinct (take k new) ≡ false → AskedIds bs (record { number = 22; ids = 0 }) old new
-  asked-few few d = no bs old new 22 (sym (asked-is ∙ rw (sym (ap (λ (l : List ℕ). distinct l) (kept-all few)) ∙ d))) (λ z. omega (arith, z)) (h .size)
+  -- the array of `ask_parameters`
+  module _ (o : length old ≡ 64) where
+    pub asked-good : k ≤ 64 → distinct (take k new) ≡ true → AskedIds bs (record { number = 0; ids = k }) old new
+    asked-good few d =
+        let room : k ≤ length old = omega (arith, few, o) in
+        record {
+          is = sym (asked-is ∙ rw (sym (kept-distinct room) ∙ d, le-leb k 64 few));
+          count = λ z. sym ids-long;
+          output = λ z. written room;
+          size = h .size ∙ o;
+        }
 
-  pub asked-many : 64 < k → distinct (idsIn bs) ≡ true → AskedIds bs (record { number = 23; ids = 0 }) old new
-  asked-many many d = no bs old new 23 (sym (asked-is ∙ rw (d, lt-leb k 64 many))) (λ z. omega (arith, z)) (h .size)
+    pub asked-few : k ≤ 64 → distinct (take k new) ≡ false → AskedIds bs (record { number = 22; ids = 0 }) old new
+    asked-few few d =
+        no bs old new 22 (sym (asked-is ∙ rw (sym (kept-distinct (omega (arith, few, o))) ∙ d))) (λ z. omega (arith, z)) (h .size ∙ o)
 
-  pub asked-twice : distinct (idsIn bs) ≡ false → AskedIds bs (record { number = 22; ids = 0 }) old new
-  asked-twice d = no bs old new 22 (sym (asked-is ∙ rw d)) (λ z. omega (arith, z)) (h .size)
+    pub asked-many : 64 < k → distinct (idsIn bs) ≡ true → AskedIds bs (record { number = 23; ids = 0 }) old new
+    asked-many many d = no bs old new 23 (sym (asked-is ∙ rw (d, lt-leb k 64 many))) (λ z. omega (arith, z)) (h .size ∙ o)
+
+    pub asked-twice : distinct (idsIn bs) ≡ false → AskedIds bs (record { number = 22; ids = 0 }) old new
+    asked-twice d = no bs old new 22 (sym (asked-is ∙ rw d)) (λ z. omega (arith, z)) (h .size ∙ o)

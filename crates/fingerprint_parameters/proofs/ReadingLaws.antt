@@ -21,10 +21,10 @@ pub record Reading (body old ids : List ℕ) (at k : ℕ) : Type 0 where
   pub before : List ℕ
   pub long : length before ≡ k
   pub is : idsOf body ≡ mapped (λ r. before ++ r) (idsOf (drop at body))
-  pub kept : k ≤ 64 → ids ≡ front before old
+  pub kept : k ≤ length old → ids ≡ front before old
   pub few : k ≤ at
   pub within : at ≤ length body
-  pub size : length ids ≡ 64
+  pub size : length ids ≡ length old
 
 mapped-same : (x : Option (List ℕ)) → x ≡ mapped (λ r. [] ++ r) x
 unfolding mapped
@@ -36,8 +36,8 @@ unfolding mapped
 mapped-last a y none = refl
 mapped-last a y (some r) = ap (λ (l : List ℕ). some l) (sym (append-assoc a (y ∷ []) r))
 
-pub reading-start : (body ids : List ℕ) → length ids ≡ 64 → Reading body ids ids 0 0
-reading-start body ids h =
+pub reading-start : (body ids : List ℕ) → Reading body ids ids 0 0
+reading-start body ids =
     record {
       before = [];
       long = refl;
@@ -45,10 +45,10 @@ reading-start body ids h =
       kept = λ p. front-none ids;
       few = omega arith;
       within = omega arith;
-      size = h;
+      size = refl;
     }
 
-module _ (body old ids : List ℕ) (at k : ℕ) (long : length old ≡ 64) (r : Reading body old ids at k) where
+module _ (body old ids : List ℕ) (at k : ℕ) (r : Reading body old ids at k) where
   pub reading-next : Bytes body → at < length body → (id used : ℕ) → ParameterFound (drop at body) id used → Reading body old (set ids k id) (at + used) (k + 1)
   reading-next b h id used f =
       record {
@@ -64,13 +64,13 @@ module _ (body old ids : List ℕ) (at k : ℕ) (long : length old ≡ 64) (r : 
         size = length-set ids k id ∙ r .size;
       }
     where
-      kept-next : k + 1 ≤ 64 → set ids k id ≡ front (r .before ++ (id ∷ [])) old
+      kept-next : k + 1 ≤ length old → set ids k id ≡ front (r .before ++ (id ∷ [])) old
       kept-next p =
           let all : List ℕ = r .before ++ (id ∷ []) in
           let counted : length all ≡ k + 1 = omega (arith, length-append (r .before) (id ∷ []), r .long) in
           let these : take k all ≡ r .before = take-at (r .before) (id ∷ []) k (r .long) in
           let this : getD all k 0 ≡ id = getD-at (r .before) id [] 0 k (r .long) in
-          let more = front-more k all old (omega (arith, counted)) (omega (arith, counted, p, long)) in
+          let more = front-more k all old (omega (arith, counted)) (omega (arith, counted, p)) in
           rw (r .kept (omega (arith, p))) (rw (these, this, take-all (k + 1) all (omega (arith, counted))) at more)
 
   pub reading-cut : at < length body → oneParameter (drop at body) ≡ none → Kept (idsOf body) count.Cut old ids

@@ -7,7 +7,7 @@ use mathlib.Core.Option.{Option, none, some}
 use lib.ListN.{length, drop, getD}
 use lib.Dec.{ltb}
 use Rattle.wire.specs.Front.{front}
-use Rattle.wire.specs.Sums.{member}
+use Rattle.wire.specs.Sums.{member, distinct}
 use Rattle.fingerprint_bodies.specs.Entries.{entry, orEmpty, mapped}
 use Rattle.fingerprint_bodies.specs.Body as value
 use Rattle.fingerprint_bodies.specs.Body.{parameters}
@@ -18,6 +18,8 @@ use Rattle.fingerprint_parameters.specs.declared.Parameter.the-variants 
 use Rattle.fingerprint_parameters.specs.declared.Asked.{Asked}
 use Rattle.fingerprint_parameters.specs.declared.Count.{Count}
 use Rattle.fingerprint_parameters.specs.declared.Count.the-variants as count
+use Rattle.fingerprint_parameters.specs.declared.order.Rise.{Rise}
+use Rattle.fingerprint_parameters.specs.declared.order.Rise.the-variants as rise
 
 -- ---- One parameter at the front of some bytes
 
@@ -49,8 +51,8 @@ countOf (some l) = count.Are (length l)
 -- the count; and the ids are written over the front of the array, if it has room for all of them
 pub record Kept (ids : Option (List ℕ)) (r : Count) (old new : List ℕ) : Type 0 where
   pub is : r ≡ countOf ids
-  pub size : length new ≡ 64
-  pub output : (l : List ℕ) → ids ≡ some l → length l ≤ 64 → new ≡ front l old
+  pub size : length new ≡ length old
+  pub output : (l : List ℕ) → ids ≡ some l → length l ≤ length old → new ≡ front l old
 
 -- the same ids; none where the body is not in its form
 abbrev pub idsIn : List ℕ → List ℕ
@@ -66,3 +68,9 @@ pub record AskedIds (bs : List ℕ) (r : Asked) (old new : List ℕ) : Type 0 wh
 -- every number of a list has its mark, by its rest modulo 64
 abbrev pub Marked : List Bool → List ℕ → Type 0
 Marked marks l = (x : ℕ) → member x l ≡ true → getD marks (x % 64) false ≡ true
+
+-- what ids say in an order: they are all new, one stands twice, or nothing
+abbrev pub RiseAs : Rise → List ℕ → Type 0
+RiseAs rise.Rising l = distinct l ≡ true
+RiseAs rise.Twice l = distinct l ≡ false
+RiseAs rise.Unsorted l = Unit {0}

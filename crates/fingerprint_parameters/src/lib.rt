@@ -1,5 +1,7 @@
 // The body of the transport parameters (extension 0039; RFC 9000, section 18): ids, each with a length and a value. Document 01,
 // questions 21 to 23 for this body.
+mod order;
+
 ghost use mathlib.Core.Path.{_≡_};
 ghost use mathlib.Core.Option.{some};
 ghost use Prim.Native.Nat.{_≤_};
@@ -7,7 +9,8 @@ ghost use lib.ListN.{length, take};
 ghost use Rattle.wire.specs.Sums.{member, distinct};
 ghost use Rattle.fingerprint_bodies.specs.Entries.{orEmpty};
 ghost use Rattle.fingerprint_bodies.specs.Forms.{transportParameters};
-ghost use Rattle.fingerprint_parameters.specs.Code.{ParameterAs, shortOf, idsOf, Kept, idsIn, AskedIds};
+ghost use Rattle.fingerprint_parameters.specs.Code.{ParameterAs, shortOf, idsOf, Kept, idsIn, RiseAs, AskedIds};
+use order::Rise;
 use varint::Got;
 
 // A parameter at the front of some bytes: its id, and the bytes that it takes.
@@ -72,19 +75,19 @@ fn short_parameter(left: usize, id: u8, length: u8) -> Parameter
     Parameter::Whole(id as u64, 2 + length as usize)
 }
 
-// Counts the parameters, and keeps the ids of the first 64.
-fn read_ids(body: &[u8], ids: &mut [u64; 64]) -> Count
-    requires { ⌜ length (now ids) ≡ 64 ⌝ }
+// Counts the parameters, and keeps the ids of the first, as many as there is room for.
+fn read_ids(body: &[u8], ids: &mut [u64]) -> Count
     ensures { λ r. ⌜ Kept (idsOf (now (body .entry))) r (now (ids .entry)) (now (ids .exit)) ⌝ }
 {
     let n = body.len();
+    let room = ids.len();
     let mut at: usize = 0;
     let mut k: usize = 0;
     while at < n {
         let Parameter::Whole(id, used) = one_parameter(&body[at..]) else {
             return Count::Cut;
         };
-        if k < 64 {
+        if k < room {
             ids[k] = id;
         }
         at = at + used;
@@ -148,8 +151,8 @@ fn has_id(list: &[u8], id: u64) -> bool
     false
 }
 
-// No id stands twice in the body, however many there are: each is looked for among those after it.
-pub fn ids_new(body: &[u8]) -> bool
+// No id stands twice in the body: each is looked for among those after it.
+fn each_among_later(body: &[u8]) -> bool
     requires { ⌜ transportParameters (now body) ≡ some (orEmpty (transportParameters (now body))) ⌝ }
     ensures { λ r. ⌜ r ≡ distinct (idsIn (now (body .entry))) ⌝ }
 {
@@ -165,6 +168,38 @@ pub fn ids_new(body: &[u8]) -> bool
         }
     }
     true
+}
+
+// What the ids of a body say in their order, where none is over the limit and there are at most 8192: a hello has room for no more. This
+// is called at two places, and so is not inlined: else every body would be asked in a frame that has room for so many ids.
+fn ids_in_order(body: &[u8], limit: u64) -> Rise
+    ensures { λ r. ⌜ RiseAs r (idsIn (now (body .entry))) ⌝ }
+{
+    let mut ids = [0u64; 8192];
+    let Count::Are(n) = read_ids(body, &mut ids) else {
+        return Rise::Unsorted;
+    };
+    if 8192 < n {
+        return Rise::Unsorted;
+    }
+    order::in_order(&ids, n, limit)
+}
+
+// No id stands twice in the body, however many there are. Their order tells: first for ids below 2^22, as all of one and two bytes are,
+// then for any. Where it does not, each is looked for among those after it.
+pub fn ids_new(body: &[u8]) -> bool
+    requires { ⌜ transportParameters (now body) ≡ some (orEmpty (transportParameters (now body))) ⌝ }
+    ensures { λ r. ⌜ r ≡ distinct (idsIn (now (body .entry))) ⌝ }
+{
+    match ids_in_order(body, 4194303) {
+        Rise::Rising => true,
+        Rise::Twice => false,
+        Rise::Unsorted => match ids_in_order(body, u64::MAX) {
+            Rise::Rising => true,
+            Rise::Twice => false,
+            Rise::Unsorted => each_among_later(body),
+        },
+    }
 }
 
 // The number of a refusal, or 0, of a body that has no ids to tell.

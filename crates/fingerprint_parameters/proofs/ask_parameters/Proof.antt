@@ -1,12 +1,18 @@
 -- Each answer is that of the questions in their order, by the count and the ids that were read. Assumes nothing.
-use mathlib.Core.Path.{sym, _∙_}
+use mathlib.Core.Path.{_≡_, sym, _∙_}
 use denote.Ref.{now}
+use lib.ListN.{length}
 use Rattle.fingerprint_parameters.specs.Code.{idsOf, Kept}
 use Rattle.fingerprint_parameters.specs.declared.Count.the-variants as count
 use Rattle.fingerprint_parameters.proofs.AskedLaws.{asked-cut, all-there, asked-good, asked-few, asked-many, asked-twice}
 use borrow.Author.Needs.{needs}
 use Rattle.fingerprint_parameters.proofs.ask_parameters.Statement.{statement}
 use Rattle.fingerprint_parameters.proofs.ask_parameters.Tie as tie
+
+room : (c : tie.After-known-told) →
+    let args = c .before .before .before .before .before .before .args in
+    length (now (args .ids)) ≡ 64
+room c = c .before .before .before .before .before .before .pre
 
 kept : (c : tie.After-known-told) →
     let args = c .before .before .before .before .before .before .args in
@@ -33,8 +39,9 @@ without-ids-requires c κs = search needs
 returns : tie.Need-returns
 returns c =
     let args = c .before .before .before .before .before .before .args in
+    let pre = c .before .before .before .before .before .before .pre in
     let reading = c .before .before .before .read-ids in
-    rw (c .without-ids .ensures) (asked-cut (now (args .body)) _ _ (rw (c .before .enum-told .given .1) at (reading .ensures)))
+    rw (c .without-ids .ensures) (asked-cut (now (args .body)) _ _ pre (rw (c .before .enum-told .given .1) at (reading .ensures)))
 
 all-new-requires : tie.Need-all-new-requires
 all-new-requires c κs = search needs
@@ -45,7 +52,7 @@ returns-2 c =
     let at-entry = c .before .before .before .before in
     let if1 = c .before .before .before .if1 in
     let looked = c .before .all-new in
-    asked-good (now (args .body)) _ _ _ (kept at-entry) (if1 .taken) (sym (looked .ensures) ∙ c .if2 .taken)
+    asked-good (now (args .body)) _ _ _ (kept at-entry) (room at-entry) (if1 .taken) (sym (looked .ensures) ∙ c .if2 .taken)
 
 without-ids-requires-2 : tie.Need-without-ids-requires-2
 without-ids-requires-2 c κs = search needs
@@ -56,7 +63,8 @@ returns-3 c =
     let at-entry = c .before .before .before .before .before in
     let if1 = c .before .before .before .before .if1 in
     let looked = c .before .before .all-new in
-    rw (c .without-ids2 .ensures) (asked-few (now (args .body)) _ _ _ (kept at-entry) (if1 .taken) (sym (looked .ensures) ∙ c .before .if2 .left))
+    rw (c .without-ids2 .ensures)
+    (asked-few (now (args .body)) _ _ _ (kept at-entry) (room at-entry) (if1 .taken) (sym (looked .ensures) ∙ c .before .if2 .left))
 
 ids-new-requires : tie.Need-ids-new-requires
 ids-new-requires c κs =
@@ -72,7 +80,8 @@ returns-4 c =
     let at-entry = c .before .before .before .before in
     let if1 = c .before .before .before .if1 in
     let looked = c .before .before .ids-new in
-    rw (c .without-ids3 .ensures) (asked-many (now (args .body)) _ _ _ (kept at-entry) (if1 .left) (sym (looked .ensures) ∙ c .before .if3 .taken))
+    rw (c .without-ids3 .ensures)
+    (asked-many (now (args .body)) _ _ _ (kept at-entry) (room at-entry) (if1 .left) (sym (looked .ensures) ∙ c .before .if3 .taken))
 
 without-ids-requires-4 : tie.Need-without-ids-requires-4
 without-ids-requires-4 c κs = search needs
@@ -82,7 +91,8 @@ returns-5 c =
     let args = c .before .before .before .before .before .before .before .before .before .before .args in
     let at-entry = c .before .before .before .before in
     let looked = c .before .before .ids-new in
-    rw (c .without-ids4 .ensures) (asked-twice (now (args .body)) _ _ _ (kept at-entry) (sym (looked .ensures) ∙ c .before .if3 .left))
+    rw (c .without-ids4 .ensures)
+    (asked-twice (now (args .body)) _ _ _ (kept at-entry) (room at-entry) (sym (looked .ensures) ∙ c .before .if3 .left))
 
 pub ask-parameters-spec : {M : Type 1} → statement M
 ask-parameters-spec =

@@ -15,10 +15,10 @@ use Rattle.fingerprint_parameters.proofs.read_ids.Statement.{statement}
 use Rattle.fingerprint_parameters.proofs.read_ids.Tie as tie
 
 abbrev Inv-loop : tie.InvT-loop
-Inv-loop body ids₀ n at₀ k₀ ids at k = Reading body ids₀ ids at k
+Inv-loop body ids₀ n room at₀ k₀ ids at k = Reading body ids₀ ids at k
 
 abbrev μ-loop : tie.MeasureT-loop
-μ-loop body ids₀ n at₀ k₀ ids at k = length body - at
+μ-loop body ids₀ n room at₀ k₀ ids at k = length body - at
 
 bytes : (c : tie.After-shared-slice-known Inv-loop μ-loop) →
     let args = c .before .args in
@@ -26,16 +26,16 @@ bytes : (c : tie.After-shared-slice-known Inv-loop μ-loop) →
 bytes c = λ k. c .shared-slice-known .given k .fits
 
 inner : (c : tie.After-one-parameter Inv-loop μ-loop) →
-    let args = c .before .before .before .before .before .args in
+    let args = c .before .before .before .before .before .before .args in
     let loop = c .before .before .before .loop in
     ParameterAs (c .one-parameter .result) (drop (loop .at) (now (args .body)))
 inner c =
-    let args = c .before .before .before .before .before .args in
+    let args = c .before .before .before .before .before .before .args in
     let loop = c .before .before .before .loop in
     rw (part-to-end (now (args .body)) (loop .at)) at (c .one-parameter .ensures)
 
 found : (c : tie.After-known-told Inv-loop μ-loop) →
-    let args = c .before .before .before .before .before .before .before .before .args in
+    let args = c .before .before .before .before .before .before .before .before .before .args in
     let loop = c .before .before .before .before .before .before .loop in
     let id = c .before .id in
     ParameterFound (drop (loop .at) (now (args .body))) (id .given .0 .0) (id .given .0 .1 .0)
@@ -45,16 +45,16 @@ found c =
     rw (id .given .1) at (inner at-call)
 
 next : (c : tie.After-known-told Inv-loop μ-loop) →
-    let args = c .before .before .before .before .before .before .before .before .args in
+    let args = c .before .before .before .before .before .before .before .before .before .args in
     let loop = c .before .before .before .before .before .before .loop in
     let id = c .before .id in
     Reading (now (args .body)) (now (args .ids)) (set (loop .ids) (loop .k) (id .given .0 .0)) (loop .at + id .given .0 .1 .0) (loop .k + 1)
 next c =
-    let args = c .before .before .before .before .before .before .before .before .args in
-    let start = c .before .before .before .before .before .before .before in
+    let args = c .before .before .before .before .before .before .before .before .before .args in
+    let start = c .before .before .before .before .before .before .before .before in
     let loop = c .before .before .before .before .before .before .loop in
     let test = c .before .before .before .before .before .loop-test in
-    reading-next (now (args .body)) (now (args .ids)) (loop .ids) (loop .at) (loop .k) (start .before .pre) (loop .inv) (bytes start) (test .taken) _ _ (found c)
+    reading-next (now (args .body)) (now (args .ids)) (loop .ids) (loop .at) (loop .k) (loop .inv) (bytes start) (test .taken) _ _ (found c)
 
 stored : (c : tie.Joined1 Inv-loop μ-loop) →
     let loop = c .before .before .before .before .before .before .before .loop in
@@ -67,9 +67,8 @@ stored c =
 
 loop-holds : tie.Need-loop-holds Inv-loop μ-loop
 loop-holds c =
-    let args = c .before .args in
-    let pre = c .before .pre in
-    reading-start (now (args .body)) (now (args .ids)) pre
+    let args = c .before .before .args in
+    reading-start (now (args .body)) (now (args .ids))
 
 sub-one-parameter : tie.Need-sub-one-parameter Inv-loop μ-loop
 sub-one-parameter c = search needs
@@ -89,19 +88,23 @@ enum-known-id c = search needs
 enum-told : tie.Need-enum-told Inv-loop μ-loop
 enum-told c = search needs
 
+same-length : tie.Need-same-length Inv-loop μ-loop
+same-length c = search needs
+
 returns : tie.Need-returns Inv-loop μ-loop
 returns c =
-    let args = c .before .before .before .before .before .before .before .args in
+    let args = c .before .before .before .before .before .before .before .before .args in
     let loop = c .before .before .before .before .before .loop in
     let test = c .before .before .before .before .loop-test in
     let at-call = c .before .before in
-    reading-cut (now (args .body)) (now (args .ids)) (loop .ids) (loop .at) (loop .k) (c .before .before .before .before .before .before .before .pre) (loop .inv) (test .taken) (rw (c .enum-told .given .1) at (inner at-call))
+    let cut = rw (c .enum-told .given .1) at (inner at-call) in
+    reading-cut (now (args .body)) (now (args .ids)) (loop .ids) (loop .at) (loop .k) (loop .inv) (test .taken) cut
 
 mul-ids : tie.Need-mul-ids Inv-loop μ-loop
 mul-ids c = search needs
 
-element-write-ids : tie.Need-element-write-ids Inv-loop μ-loop
-element-write-ids c = search needs
+slice-write-ids : tie.Need-slice-write-ids Inv-loop μ-loop
+slice-write-ids c = search needs
 
 add-at : tie.Need-add-at Inv-loop μ-loop
 add-at c =
@@ -125,11 +128,14 @@ loop-again c =
     let at-entry = c .before in
     rw (stored c) (next at-entry)
 
+same-length-2 : tie.Need-same-length-2 Inv-loop μ-loop
+same-length-2 c = search needs
+
 returns-2 : tie.Need-returns-2 Inv-loop μ-loop
 returns-2 c =
-    let args = c .before .before .before .args in
+    let args = c .before .before .before .before .args in
     let loop = c .before .loop in
-    reading-end (now (args .body)) (now (args .ids)) (loop .ids) (loop .at) (loop .k) (c .before .before .before .pre) (loop .inv) (c .loop-test .left)
+    reading-end (now (args .body)) (now (args .ids)) (loop .ids) (loop .at) (loop .k) (loop .inv) (c .loop-test .left)
 
 pub read-ids-spec : {M : Type 1} → statement M
 read-ids-spec =
@@ -144,11 +150,13 @@ read-ids-spec =
     one-parameter-requires
     enum-known-id
     enum-told
+    same-length
     returns
     mul-ids
-    element-write-ids
+    slice-write-ids
     add-at
     add-k
     loop-less
     loop-again
+    same-length-2
     returns-2)

@@ -1,0 +1,199 @@
+-- The loop keeps: the ids are distinct exactly where those from the place on are. Assumes nothing.
+use mathlib.Core.Path.{_≡_, refl, sym, _∙_}
+use Prim.Native.Nat.{_+_, _-_, _≤_, zero-le}
+use mathlib.Core.List.{_∷_}
+use denote.Ref.{now}
+use lib.ListN.{length, drop}
+use Rattle.wire.specs.Numbers.{Bytes}
+use Rattle.wire.specs.Sums.{member, distinct}
+use Rattle.wire.proofs.ListLaws.{part-to-end}
+use Rattle.fingerprint_bodies.specs.Forms.{transportParameters}
+use Rattle.fingerprint_bodies.proofs.EntryLaws.{There}
+use Rattle.fingerprint_parameters.specs.Code.{ParameterFound, ParameterAs, idsIn}
+use Rattle.fingerprint_parameters.proofs.MemberLaws.{distinct-nil, distinct-not, distinct-later}
+use Rattle.fingerprint_parameters.proofs.ParameterLaws.{cut-there, next-within, next-there, next-ids, ids-end}
+use borrow.Author.Needs.{needs}
+use native.Mathlib.Omega.{arith}
+use Rattle.fingerprint_parameters.proofs.each_among_later.Statement.{statement}
+use Rattle.fingerprint_parameters.proofs.each_among_later.Tie as tie
+
+abbrev Inv-loop : tie.InvT-loop
+Inv-loop body n at₀ at = (at ≤ length body) × There (transportParameters (drop at body)) × (distinct (idsIn body) ≡ distinct (idsIn (drop at body)))
+
+abbrev μ-loop : tie.MeasureT-loop
+μ-loop body n at₀ at = length body - at
+
+bytes : (c : tie.After-shared-slice-known Inv-loop μ-loop) →
+    let args = c .before .args in
+    Bytes (now (args .body))
+bytes c = λ k. c .shared-slice-known .given k .fits
+
+inner : (c : tie.After-one-parameter Inv-loop μ-loop) →
+    let args = c .before .before .before .before .before .args in
+    let loop = c .before .before .before .loop in
+    ParameterAs (c .one-parameter .result) (drop (loop .at) (now (args .body)))
+inner c =
+    let args = c .before .before .before .before .before .args in
+    let loop = c .before .before .before .loop in
+    rw (part-to-end (now (args .body)) (loop .at)) at (c .one-parameter .ensures)
+
+found : (c : tie.After-known-told Inv-loop μ-loop) →
+    let args = c .before .before .before .before .before .before .before .before .args in
+    let loop = c .before .before .before .before .before .before .loop in
+    let id = c .before .id in
+    ParameterFound (drop (loop .at) (now (args .body))) (id .given .0 .0) (id .given .0 .1 .0)
+found c =
+    let at-call = c .before .before .before in
+    let id = c .before .id in
+    rw (id .given .1) at (inner at-call)
+
+within : (c : tie.After-known-told Inv-loop μ-loop) →
+    let args = c .before .before .before .before .before .before .before .before .args in
+    let loop = c .before .before .before .before .before .before .loop in
+    let id = c .before .id in
+    loop .at + id .given .0 .1 .0 ≤ length (now (args .body))
+within c =
+    let args = c .before .before .before .before .before .before .before .before .args in
+    let start = c .before .before .before .before .before .before .before in
+    let loop = c .before .before .before .before .before .before .loop in
+    let test = c .before .before .before .before .before .loop-test in
+    next-within (now (args .body)) (loop .at) (test .taken) (bytes start) _ _ (found c)
+
+there : (c : tie.After-known-told Inv-loop μ-loop) →
+    let args = c .before .before .before .before .before .before .before .before .args in
+    let loop = c .before .before .before .before .before .before .loop in
+    let id = c .before .id in
+    There (transportParameters (drop (loop .at + id .given .0 .1 .0) (now (args .body))))
+there c =
+    let args = c .before .before .before .before .before .before .before .before .args in
+    let start = c .before .before .before .before .before .before .before in
+    let loop = c .before .before .before .before .before .before .loop in
+    let test = c .before .before .before .before .before .loop-test in
+    next-there (now (args .body)) (loop .at) (test .taken) (bytes start) _ _ (found c) (loop .inv .1)
+
+rest : (c : tie.After-known-told Inv-loop μ-loop) →
+    let args = c .before .before .before .before .before .before .before .before .args in
+    let loop = c .before .before .before .before .before .before .loop in
+    let id = c .before .id in
+    idsIn (drop (loop .at) (now (args .body))) ≡ id .given .0 .0 ∷ idsIn (drop (loop .at + id .given .0 .1 .0) (now (args .body)))
+rest c =
+    let args = c .before .before .before .before .before .before .before .before .args in
+    let start = c .before .before .before .before .before .before .before in
+    let loop = c .before .before .before .before .before .before .loop in
+    let test = c .before .before .before .before .before .loop-test in
+    next-ids (now (args .body)) (loop .at) (test .taken) (bytes start) _ _ (found c) (loop .inv .1)
+
+looked : (c : tie.After-has-id Inv-loop μ-loop) →
+    let args = c .before .before .before .before .before .before .before .before .before .before .args in
+    let loop = c .before .before .before .before .before .before .before .before .loop in
+    let id = c .before .before .before .id in
+    c .has-id .result ≡ member (id .given .0 .0) (idsIn (drop (loop .at + id .given .0 .1 .0) (now (args .body))))
+looked c =
+    let args = c .before .before .before .before .before .before .before .before .before .before .args in
+    let loop = c .before .before .before .before .before .before .before .before .loop in
+    let id = c .before .before .before .id in
+    rw (part-to-end (now (args .body)) (loop .at + id .given .0 .1 .0)) at (c .has-id .ensures)
+
+loop-holds : tie.Need-loop-holds Inv-loop μ-loop
+loop-holds c =
+    let pre = c .before .pre in
+    (zero-le, pre, refl)
+
+sub-one-parameter : tie.Need-sub-one-parameter Inv-loop μ-loop
+sub-one-parameter c = search needs
+
+part-one-parameter-start : tie.Need-part-one-parameter-start Inv-loop μ-loop
+part-one-parameter-start c = search needs
+
+part-one-parameter-end : tie.Need-part-one-parameter-end Inv-loop μ-loop
+part-one-parameter-end c = search needs
+
+one-parameter-requires : tie.Need-one-parameter-requires Inv-loop μ-loop
+one-parameter-requires c κs = search needs
+
+enum-known-id : tie.Need-enum-known-id Inv-loop μ-loop
+enum-known-id c = search needs
+
+enum-told : tie.Need-enum-told Inv-loop μ-loop
+enum-told c = search needs
+
+returns : tie.Need-returns Inv-loop μ-loop
+returns c =
+    let args = c .before .before .before .before .before .before .before .args in
+    let loop = c .before .before .before .before .before .loop in
+    let test = c .before .before .before .before .loop-test in
+    let at-call = c .before .before in
+    absurd (cut-there (now (args .body)) (loop .at) (test .taken) (rw (c .enum-told .given .1) at (inner at-call)) (loop .inv .1))
+
+add-at : tie.Need-add-at Inv-loop μ-loop
+add-at c = omega (arith, within c)
+
+sub-has-id : tie.Need-sub-has-id Inv-loop μ-loop
+sub-has-id c = within c
+
+part-has-id-start : tie.Need-part-has-id-start Inv-loop μ-loop
+part-has-id-start c = omega (arith, within c)
+
+part-has-id-end : tie.Need-part-has-id-end Inv-loop μ-loop
+part-has-id-end c = search needs
+
+has-id-requires : tie.Need-has-id-requires Inv-loop μ-loop
+has-id-requires c κs =
+    let args = c .before .before .before .before .before .before .before .before .before .args in
+    let loop = c .before .before .before .before .before .before .before .loop in
+    let id = c .before .before .id in
+    let at-entry = c .before in
+    rw (part-to-end (now (args .body)) (loop .at + id .given .0 .1 .0)) (there at-entry)
+
+returns-2 : tie.Need-returns-2 Inv-loop μ-loop
+returns-2 c =
+    let loop = c .before .before .before .before .before .before .before .before .before .loop in
+    let at-entry = c .before .before .before in
+    let at-look = c .before in
+    sym (loop .inv .2 ∙ rw (rest at-entry) (distinct-not _ _ (sym (looked at-look) ∙ c .if1 .taken)))
+
+loop-less : tie.Need-loop-less Inv-loop μ-loop
+loop-less c =
+    let test = c .before .before .before .before .before .before .before .before .loop-test in
+    let at-entry = c .before .before .before in
+    omega (arith, test .taken, (found at-entry) .some)
+
+loop-again : tie.Need-loop-again Inv-loop μ-loop
+loop-again c =
+    let loop = c .before .before .before .before .before .before .before .before .before .loop in
+    let at-entry = c .before .before .before in
+    let at-look = c .before in (
+      within at-entry,
+      there at-entry,
+      loop .inv .2 ∙ rw (rest at-entry) (distinct-later _ _ (sym (looked at-look) ∙ c .if1 .left)),
+    )
+
+returns-3 : tie.Need-returns-3 Inv-loop μ-loop
+returns-3 c =
+    let args = c .before .before .before .args in
+    let loop = c .before .loop in
+    sym (loop .inv .2 ∙ rw (ids-end (now (args .body)) (loop .at) (c .loop-test .left)) distinct-nil)
+
+pub each-among-later-spec : {M : Type 1} → statement M
+each-among-later-spec =
+    tie.close
+    (tie.spec
+    Inv-loop
+    μ-loop
+    loop-holds
+    sub-one-parameter
+    part-one-parameter-start
+    part-one-parameter-end
+    one-parameter-requires
+    enum-known-id
+    enum-told
+    returns
+    add-at
+    sub-has-id
+    part-has-id-start
+    part-has-id-end
+    has-id-requires
+    returns-2
+    loop-less
+    loop-again
+    returns-3)
