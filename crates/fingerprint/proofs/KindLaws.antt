@@ -6,7 +6,7 @@ use native.Mathlib.Omega.{arith}
 use borrow.Author.Tests.{ne-eqb, eqb-true}
 use lib.Dec.{eqb}
 use Rattle.fingerprint_bodies.specs.Body.{Kind, name, groups, algorithms, protocols, versions, shares, parameters, other, kind}
-use Rattle.fingerprint.specs.Code.{slot}
+use Rattle.fingerprint.specs.Code.{slot, kindAt}
 
 pub kind-other : (t : ℕ) → (t ≡ 0x0000 → ⊥) → (t ≡ 0x000a → ⊥) → (t ≡ 0x000d → ⊥) → (t ≡ 0x0010 → ⊥) → (t ≡ 0x002b → ⊥) → (t ≡ 0x0033 → ⊥)
     → (t ≡ 0x0039 → ⊥) → kind t ≡ other
@@ -49,7 +49,7 @@ kind-same t u e n = kind-type t (λ o. n (sym e ∙ o)) ∙ ap typeFor e ∙ sym
 pub other-type : (t u : ℕ) → (kind u ≡ kind t → ⊥) → eqb t u ≡ false
 other-type t u n = ne-eqb t u (λ e. n (ap kind (sym e)))
 
--- ---- places of notes
+-- ---- places of bodies
 
 pub slot-small : (k : Kind) → slot k < 8
 slot-small name = omega arith
@@ -61,18 +61,7 @@ slot-small shares = omega arith
 slot-small parameters = omega arith
 slot-small other = omega arith
 
-abbrev kindAt : ℕ → Kind
-kindAt n =
-    cond (eqb n 0) name
-    (cond (eqb n 1) groups
-    (cond (eqb n 2) algorithms
-    (cond (eqb n 3) protocols
-    (cond (eqb n 4) versions
-    (cond (eqb n 5) shares
-    (cond (eqb n 6) parameters
-    other))))))
-
-kind-at-slot : (k : Kind) → kindAt (slot k) ≡ k
+pub kind-at-slot : (k : Kind) → kindAt (slot k) ≡ k
 kind-at-slot name = refl
 kind-at-slot groups = refl
 kind-at-slot algorithms = refl
@@ -81,6 +70,9 @@ kind-at-slot versions = refl
 kind-at-slot shares = refl
 kind-at-slot parameters = refl
 kind-at-slot other = refl
+
+pub kind-at-other : (n : ℕ) → (n ≡ 0 → ⊥) → (n ≡ 1 → ⊥) → (n ≡ 2 → ⊥) → (n ≡ 3 → ⊥) → (n ≡ 4 → ⊥) → (n ≡ 5 → ⊥) → (n ≡ 6 → ⊥) → kindAt n ≡ other
+kind-at-other n a b c d e f g = rw (ne-eqb n 0 a, ne-eqb n 1 b, ne-eqb n 2 c, ne-eqb n 3 d, ne-eqb n 4 e, ne-eqb n 5 f, ne-eqb n 6 g)
 
 pub slot-same : (k l : Kind) → slot k ≡ slot l → k ≡ l
 slot-same k l e = sym (kind-at-slot k) ∙ ap kindAt e ∙ kind-at-slot l

@@ -1,7 +1,7 @@
 -- The report from what was found: each field is that of the ClientHello. Assumes nothing.
-use Prim.Native.Nat.{ℕ, _+_, _-_, _≤_, _<_}
+use Prim.Native.Nat.{ℕ, zero, suc, _+_, _-_, _≤_, _<_}
 use mathlib.Core.Path.{_≡_, refl, sym, ap, _∙_, subst}
-use mathlib.Core.List.{List, [], _∷_, map}
+use mathlib.Core.List.{List, [], _∷_, _++_, map, map-map, map-id, map-append}
 use mathlib.Core.Logic.{⊎-elim}
 use Rattle.wire.proofs.ListLaws.{lt-or-le}
 use native.Mathlib.Omega.{arith}
@@ -9,6 +9,7 @@ use lib.ListN.{length, take, drop, replicate, length-map, length-append, length-
 use lib.Seq.{take-at}
 use borrow.Author.Tests.{lt-ltb, le-ltb}
 use Rattle.wire.specs.Answer.{Answer, result, refused}
+use Rattle.profiles.specs.declared.ExtType.{ExtType}
 use Rattle.fingerprint_bodies.specs.Entries.{orEmpty}
 use Rattle.fingerprint_bodies.specs.Body.{Kind, name, groups, algorithms, protocols, versions, shares}
 use Rattle.fingerprint_bodies.specs.Forms.{wordsIn, wordList, protocolNames, keyShares, groupOf}
@@ -46,6 +47,16 @@ name-shown h block es s n = ⊎-elim short long (lt-or-le (s .length) 5)
         let size : length (partOf h inner) ≡ s .length - 5 = length-part-of h inner (omega (arith, n .inside)) in
         rw (le-ltb (s .length) 5 k, name-there h block es s n k, size)
 
+-- ---- The types
+
+map-zeros : (n : ℕ) → map extType (replicate n 0) ≡ replicate n (extType 0)
+map-zeros zero = refl
+map-zeros (suc n) = ap (λ (l : List ExtType). extType 0 ∷ l) (map-zeros n)
+
+pub types-padded : (m : ℕ) (l : List ℕ) → map extType (padded m 0 l) ≡ padded m (extType 0) (map extType l)
+unfolding padded
+types-padded m l = rw (length-map l extType) (map-append extType l (replicate (m - length l) 0) ∙ ap (λ (r : List ExtType). map extType l ++ r) (map-zeros (m - length l)))
+
 -- ---- The report from its lists
 
 -- what the lists' functions ask of the bodies
@@ -71,9 +82,10 @@ module _ {h : List ℕ} {suites : Span} {r : Survey} (p : Readable h suites r) w
   pub good-shares : Good 64 keyShares (partOf h (noteOf r shares))
   good-shares l = sym (asked-shares (partOf h (noteOf r shares))) ∙ good shares l
 
-pub report-shown : {h : List ℕ} {session : ℕ} {suites : Span} {found : Survey} {ids : List ℕ} {v : ClientHello} → FoundOf h session suites found ids v
-    → (suite-list : Words) (group-list share-list : Groups) (algorithm-list version-list : Words) (names : Spans) (sni : Sni)
+pub report-shown : {h : List ℕ} {session : ℕ} {suites : Span} {found : Survey} {types ids : List ℕ} {v : ClientHello} → FoundOf h session suites found types ids v
+    → (suite-list : Words) (type-list : List ExtType) (group-list share-list : Groups) (algorithm-list version-list : Words) (names : Spans) (sni : Sni)
     → suite-list ≡ wordsOf (wordsIn (partOf h suites))
+    → type-list ≡ map extType types
     → group-list ≡ groupsOf (orEmpty (wordList 2 (partOf h (noteOf found groups))))
     → share-list ≡ groupsOf (map groupOf (orEmpty (keyShares (partOf h (noteOf found shares)))))
     → algorithm-list ≡ wordsOf (orEmpty (wordList 2 (partOf h (noteOf found algorithms))))
@@ -85,7 +97,7 @@ pub report-shown : {h : List ℕ} {session : ℕ} {suites : Span} {found : Surve
       «legacy_session_id_len» = session;
       «cipher_suites» = suite-list .items;
       «suite_count» = suite-list .count;
-      extensions = found .types;
+      extensions = type-list;
       «extension_count» = found .count;
       «supported_groups» = group-list .items;
       «group_count» = group-list .count;
@@ -102,8 +114,9 @@ pub report-shown : {h : List ℕ} {session : ℕ} {suites : Span} {found : Surve
       «id_count» = found .«id_count»;
     } ≡ shown 0 (report v)
 unfolding shown report wordsOf groupsOf spansOf
-report-shown {h} {session} {suites} {found} {ids} {v} f suite-list group-list share-list algorithm-list version-list names sni a b c d e g k =
+report-shown {h} {session} {suites} {found} {types} {ids} {v} f suite-list type-list group-list share-list algorithm-list version-list names sni a t b c d e g k =
     let w : suite-list ≡ wordsOf (v .cipherSuites) = a ∙ ap wordsOf (sym (f .suites-are)) in
+    let ts = t ∙ ap (map extType) (f .types-are) ∙ types-padded 64 (map typeOf (v .extensions)) in
     let count : found .count ≡ length (map typeOf (v .extensions)) = f .count-is ∙ sym (length-map (v .extensions) typeOf) in
     let gs = b ∙ ap groupsOf (sym (f .notes groups .shows)) in
     let ss = c ∙ ap groupsOf (sym (f .notes shares .shows)) in
@@ -116,7 +129,7 @@ report-shown {h} {session} {suites} {found} {ids} {v} f suite-list group-list sh
       «legacy_session_id_len» = sym (f .session-is) i;
       «cipher_suites» = w i .items;
       «suite_count» = w i .count;
-      extensions = f .types-are i;
+      extensions = ts i;
       «extension_count» = count i;
       «supported_groups» = gs i .items;
       «group_count» = gs i .count;
@@ -140,7 +153,7 @@ module _ {h : List ℕ} {session : ℕ} {suites : Span} {block : ℕ} (head : He
   pub read-refused : (n : ℕ) → allExtensions (drop block h) ≡ refused n → read h ≡ refused n
   read-refused n e = rw (head .is, e)
 
-  module _ {found : Survey} {ids : List ℕ} (s : Surveyed h block found ids) where
+  module _ {found : Survey} {types ids : List ℕ} (s : Surveyed h block found types ids) where
     abbrev pub helloOf : ClientHello
     helloOf = withExtensions (head .found) (s .found)
 
@@ -154,7 +167,7 @@ module _ {h : List ℕ} {session : ℕ} {suites : Span} {block : ℕ} (head : He
     pub notes-of : (k : Kind) → Noted h (blockPlace helloOf) (s .found) k (noteOf found k)
     notes-of k = subst (λ (n : ℕ). Noted h n (s .found) k (noteOf found k)) block-is (s .notes k)
 
-    pub found-of : FoundOf h session suites found ids helloOf
+    pub found-of : FoundOf h session suites found types ids helloOf
     found-of = record {
       session-is = head .session-is;
       suites-are = head .suites-are;
@@ -173,29 +186,22 @@ module _ {h : List ℕ} {session : ℕ} {suites : Span} {block : ℕ} (head : He
       good = λ k. s .notes k .good;
     }
 
-    -- the types that were found
-    abbrev types : List ℕ
-    types = map typeOf (s .found)
-
     pub few-types : found .count ≤ 64
     few-types = omega (arith, s .count-is, s .few)
 
-    count-is : length (map extType types) ≡ found .count
-    count-is = length-map types extType ∙ length-map (s .found) typeOf ∙ sym (s .count-is)
+    count-is : length (map typeOf (s .found)) ≡ found .count
+    count-is = length-map (s .found) typeOf ∙ sym (s .count-is)
 
-    pub length-types : length (found .types) ≡ 64
+    pub length-types : length types ≡ 64
     unfolding padded
     length-types = rw (s .types-are, length-append, length-replicate) (omega (arith, count-is, few-types))
 
-    numbers-back : (l : List ℕ) → map typeNumber (map extType l) ≡ l
-    numbers-back [] = refl
-    numbers-back (x ∷ l) = ap (λ (r : List ℕ). x ∷ r) (numbers-back l)
-
-    types-taken : map typeNumber (take (found .count) (found .types)) ≡ types
+    types-taken : map typeNumber (take (found .count) (map extType types)) ≡ map typeOf (s .found)
     unfolding padded
     types-taken =
-        let m = map extType types in
-        rw (s .types-are, take-at m (replicate (64 - length m) (extType 0)) (found .count) count-is) (numbers-back types)
+        let l = map typeOf (s .found) in
+        rw (s .types-are, types-padded 64 l, take-at (map extType l) (replicate (64 - length (map extType l)) (extType 0)) (found .count) (length-map l extType ∙ count-is))
+        (map-map typeNumber extType l ∙ map-id l)
 
     -- ---- The answers of the calls
 
@@ -203,7 +209,7 @@ module _ {h : List ℕ} {session : ℕ} {suites : Span} {block : ℕ} (head : He
     unfolding parsedOf
     parsed-result r e = rw read-result e
 
-    pub set-result : rising (map typeNumber (take (found .count) (found .types))) ≡ extensionSet (read h)
+    pub set-result : rising (map typeNumber (take (found .count) (map extType types))) ≡ extensionSet (read h)
     unfolding extensionSet report
     set-result = rw (read-result, types-taken)
 
@@ -224,9 +230,9 @@ module _ {h : List ℕ} {session : ℕ} {suites : Span} {block : ℕ} (head : He
         let l = name-long (noteOf found name) p e in
         rw (l .1) (omega (arith, s .notes name .inside, l .0))
 
-  pub survey-number : {found : Survey} {ids : List ℕ} → SurveyAs h block found ids → found .number ≡ numberOf (read h)
+  pub survey-number : {found : Survey} {types ids : List ℕ} → SurveyAs h block found types ids → found .number ≡ numberOf (read h)
   unfolding numberOf
-  survey-number {found} {ids} a = ⊎-elim refuses accepts (lt-or-le 1 (found .number + 1))
+  survey-number {found} {types} {ids} a = ⊎-elim refuses accepts (lt-or-le 1 (found .number + 1))
     where
       refuses : 1 < found .number + 1 → found .number ≡ numberOf (read h)
       refuses k = rw (read-refused (found .number) (a .refuses (omega arith)))

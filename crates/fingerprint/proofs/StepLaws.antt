@@ -21,7 +21,7 @@ use Rattle.fingerprint_bodies.specs.Code.{askedOf, asked}
 use Rattle.fingerprint_bodies.proofs.PieceLaws.{number-there, number-cut, vector-short, vector-there, vector-cut}
 use Rattle.fingerprint.specs.ClientHello.{Extension, typeOf}
 use Rattle.fingerprint.specs.Reader.{inForm, oneExtension, askBody, extension}
-use Rattle.fingerprint.specs.Code.{HeaderFound, StepFound}
+use Rattle.fingerprint.specs.Code.{slot, HeaderFound, StepFound}
 
 -- ---- the header
 
@@ -148,9 +148,9 @@ module _ {h : List ℕ} {at t start end : ℕ} (f : HeaderFound h at t start end
       unfolding extension askBody asked
       step-full l done e = rw (f .is, e, m, le-ltb (length done) 64 (omega (arith, l, sized done e)), full t (bodyOf (kind t) bytes) q)
 
-      pub step-found : length known < 64 → StepFound h at t start end known
+      pub step-found : {place : ℕ} → place ≡ slot (kind t) → length known < 64 → StepFound h at t place start end known
       unfolding extension askBody asked
-      step-found l =
+      step-found p l =
           let g : Good t (bodyOf (kind t) bytes) = good t (bodyOf (kind t) bytes) q in
           record {
             found = g .found;
@@ -158,6 +158,7 @@ module _ {h : List ℕ} {at t start end : ℕ} (f : HeaderFound h at t start end
             is = next g l;
             good = q;
             new = m;
+            place-is = p;
             room = l;
             after-header = f .after-header;
             forward = f .forward;

@@ -12,13 +12,12 @@ use Rattle.wire.specs.Numbers.{Bytes}
 use Rattle.wire.specs.Sums.{member}
 use Rattle.wire.proofs.NumberLaws.{bytes-take, bytes-drop}
 use Rattle.wire.proofs.ListLaws.{length-part}
-use Rattle.profiles.specs.declared.ExtType.{ExtType}
 use Rattle.fingerprint_bodies.specs.Entries.{entry}
 use Rattle.fingerprint_bodies.specs.Body.{Kind, kind, encodeBody}
 use Rattle.fingerprint_bodies.proofs.BodyBack.{encoded-length}
 use Rattle.fingerprint_parameters.specs.Code.{Marked}
 use Rattle.fingerprint_parameters.proofs.MarkLaws.{marked-none, marked-next}
-use Rattle.fingerprint_lists.specs.Arrays.{extType, span, padded}
+use Rattle.fingerprint_lists.specs.Arrays.{span, padded}
 use Rattle.fingerprint_lists.specs.declared.Span.{Span}
 use Rattle.fingerprint_lists.proofs.FillLaws.{padded-none, padded-set}
 use Rattle.fingerprint.specs.ClientHello.{Extension, typeOf, encodeExtensions}
@@ -78,7 +77,7 @@ module _ {A : Type 0} (z : A) (l items : List A) (n : ℕ) (is : items ≡ padde
 -- ---- the state
 
 pub walking-start : (h : List ℕ) (block : ℕ) → block ≤ length h
-    → Walking h block block 0 (replicate 64 (extType 0)) (replicate 64 0) (replicate 64 false) (replicate 8 (span 0 0)) (replicate 64 0) 0
+    → Walking h block block 0 (replicate 64 0) (replicate 64 false) (replicate 8 (span 0 0)) (replicate 64 0) 0
 unfolding encodeExtensions
 walking-start h block l = record {
   found = [];
@@ -87,8 +86,7 @@ walking-start h block l = record {
   inside = l;
   count-is = refl;
   few = omega arith;
-  types-are = sym (padded-none 64 (extType 0));
-  known-are = sym (padded-none 64 0);
+  types-are = sym (padded-none 64 0);
   marks-long = length-replicate 64 false;
   marked = marked-none (replicate 64 false);
   bodies-long = length-replicate 8 (span 0 0);
@@ -97,33 +95,30 @@ walking-start h block l = record {
   notes = λ k. subst (λ (s : Span). Noted h block [] k s) (sym (getD-replicate 8 (slot k) (span 0 0) (span 0 0) (slot-small k))) (notes-none h block k);
 }
 
-module _ {h : List ℕ} {block at count : ℕ} {types : List ExtType} {known : List ℕ} {marks : List Bool} {bodies : List Span} {ids : List ℕ} {id-count : ℕ} (w : Walking h block at count types known marks bodies ids id-count) where
-  known-count : count ≡ length (map typeOf (w .found))
-  known-count = w .count-is ∙ sym (length-map (w .found) typeOf)
+module _ {h : List ℕ} {block at count : ℕ} {types : List ℕ} {marks : List Bool} {bodies : List Span} {ids : List ℕ} {id-count : ℕ} (w : Walking h block at count types marks bodies ids id-count) where
+  types-count : count ≡ length (map typeOf (w .found))
+  types-count = w .count-is ∙ sym (length-map (w .found) typeOf)
 
-  known-take : take count known ≡ map typeOf (w .found)
-  known-take = standing 0 (map typeOf (w .found)) known count (w .known-are) known-count
+  types-taken : take count types ≡ map typeOf (w .found)
+  types-taken = standing 0 (map typeOf (w .found)) types count (w .types-are) types-count
 
-  pub known-long : length known ≡ 64
-  known-long = places 0 (map typeOf (w .found)) known count (w .known-are) known-count (omega (arith, w .count-is, w .few))
+  pub types-long : length types ≡ 64
+  types-long = places 0 (map typeOf (w .found)) types count (w .types-are) types-count (omega (arith, w .count-is, w .few))
 
-  pub known-marked : Marked marks (take count known)
-  known-marked = subst (λ (ts : List ℕ). Marked marks ts) (sym known-take) (w .marked)
+  pub types-marked : Marked marks (take count types)
+  types-marked = subst (λ (ts : List ℕ). Marked marks ts) (sym types-taken) (w .marked)
 
-  pub has-room : length (take count known) < 64 → count < 64
-  has-room l = omega (arith, l, ap length known-take, known-count)
-
-  types-count : count ≡ length (map extType (map typeOf (w .found)))
-  types-count = known-count ∙ sym (length-map (map typeOf (w .found)) extType)
+  pub has-room : length (take count types) < 64 → count < 64
+  has-room l = omega (arith, l, ap length types-taken, types-count)
 
   forward : length (w .found) + block ≤ at
   forward = omega (arith, w .place, count-below (w .found))
 
-  pub walking-stop : (n : ℕ) → at < length h → ((done : List Extension) → map typeOf done ≡ take count known → extension done (drop at h) ≡ refused n)
+  pub walking-stop : (n : ℕ) → at < length h → ((done : List Extension) → map typeOf done ≡ take count types → extension done (drop at h) ≡ refused n)
       → allExtensions (drop block h) ≡ refused n
-  walking-stop n l s = w .is ∙ onward-stop h block (w .found) at l forward n (s (w .found) (sym known-take))
+  walking-stop n l s = w .is ∙ onward-stop h block (w .found) at l forward n (s (w .found) (sym types-taken))
 
-  pub walking-end : length h ≤ at → Surveyed h block (record { number = 0; types = types; count = count; bodies = bodies; «id_count» = id-count }) ids
+  pub walking-end : length h ≤ at → Surveyed h block (record { number = 0; count = count; bodies = bodies; «id_count» = id-count }) types ids
   walking-end l = record {
     found = w .found;
     is = w .is ∙ onward-end h block (w .found) at l;
@@ -134,7 +129,7 @@ module _ {h : List ℕ} {block at count : ℕ} {types : List ExtType} {known : L
     notes = w .notes;
   }
 
-  module _ {t start end mark place : ℕ} (m : mark ≡ t % 64) (p : place ≡ slot (kind t)) (bytes : Bytes h) (l : at < length h) (s : StepFound h at t start end (take count known))
+  module _ {t place start end mark : ℕ} (m : mark ≡ t % 64) (bytes : Bytes h) (l : at < length h) (s : StepFound h at t place start end (take count types))
       {n : ℕ} {new : List ℕ} (g : Gained (kind t) (take (end - start) (drop start h)) n ids new) where
     abbrev next : Extension
     next = record { type = t; body = s .found }
@@ -158,28 +153,26 @@ module _ {h : List ℕ} {block at count : ℕ} {types : List ExtType} {known : L
         rw (types-next, m) (marked-next marks (map typeOf (w .found)) t (w .marks-long) (w .marked))
 
     type-new : member t (map typeOf (w .found)) ≡ false
-    type-new = ap (λ (ts : List ℕ). member t ts) (sym known-take) ∙ s .new
+    type-new = ap (λ (ts : List ℕ). member t ts) (sym types-taken) ∙ s .new
 
     body-place : start ≡ block + length (encodeExtensions (w .found)) + 4
     body-place = omega (arith, s .after-header, w .place)
 
     notes-all : (k : Kind) → Noted h block all k (getD (set bodies place (span start (end - start))) (slot k) (span 0 0))
     notes-all =
-        rw p
+        rw (s .place-is)
         (notes-next h block start (end - start) (w .found) next bodies (omega (arith, w .bodies-long))
         type-new body-place (omega (arith, s .forward, s .inside)) (s .body-is) (s .good) (w .notes))
 
-    pub walking-next : Walking h block end (count + 1) (set types count (extType t)) (set known count t) (set marks mark true) (set bodies place (span start (end - start))) new (id-count + n)
+    pub walking-next : Walking h block end (count + 1) (set types count t) (set marks mark true) (set bodies place (span start (end - start))) new (id-count + n)
     walking-next = record {
       found = all;
-      is = w .is ∙ onward-next h block (w .found) at l forward next end (s .is (w .found) (sym known-take));
+      is = w .is ∙ onward-next h block (w .found) at l forward next end (s .is (w .found) (sym types-taken));
       place = omega (arith, length-snoc (w .found) next, size, w .place, s .after-header, s .forward);
       inside = s .inside;
       count-is = omega (arith, length-append (w .found) (next ∷ []), w .count-is);
       few = omega (arith, length-append (w .found) (next ∷ []), w .count-is, room);
-      types-are = stored (extType 0) (map extType (map typeOf (w .found))) types count (w .types-are) types-count (extType t) room
-          ∙ ap (λ (l : List ExtType). padded 64 (extType 0) l) (sym (ap (λ (ts : List ℕ). map extType ts) types-next ∙ map-append extType (map typeOf (w .found)) (t ∷ [])));
-      known-are = stored 0 (map typeOf (w .found)) known count (w .known-are) known-count t room ∙ ap (λ (ts : List ℕ). padded 64 0 ts) (sym types-next);
+      types-are = stored 0 (map typeOf (w .found)) types count (w .types-are) types-count t room ∙ ap (λ (ts : List ℕ). padded 64 0 ts) (sym types-next);
       marks-long = length-set marks mark true ∙ w .marks-long;
       marked = marked-all;
       bodies-long = length-set bodies place (span start (end - start)) ∙ w .bodies-long;

@@ -5,7 +5,7 @@ use mathlib.Core.Bool.{Bool, false, cond}
 use mathlib.Core.List.{List, [], _∷_, map}
 use mathlib.Core.Option.{Option, none, some}
 use lib.ListN.{length, take, drop, getD}
-use lib.Dec.{ltb}
+use lib.Dec.{eqb, ltb}
 use Rattle.wire.specs.Answer.{Answer, result, refused, andThen, IsNumber}
 use Rattle.wire.specs.Front.{front}
 use Rattle.wire.specs.Sums.{member}
@@ -16,7 +16,7 @@ use Rattle.fingerprint_bodies.specs.Forms.{wordsIn, wordList, serverName, proto
 use Rattle.fingerprint_bodies.specs.Code.{asked}
 use Rattle.fingerprint_parameters.specs.Code.{idsIn, Marked}
 use Rattle.fingerprint_parameters.specs.declared.Asked.{Asked}
-use Rattle.fingerprint_lists.specs.Arrays.{extType, span, padded, Part, part, placed}
+use Rattle.fingerprint_lists.specs.Arrays.{span, padded, Part, part, placed}
 use Rattle.fingerprint_lists.specs.declared.Span.{Span}
 use Rattle.fingerprint.specs.ClientHello.{Extension, ClientHello, typeOf, encodeExtensions}
 use Rattle.fingerprint.specs.Reader.{Fields, inForm, withExtensions, oneExtension, extension, walk, allExtensions, afterSuites, afterSession, fields, readExtensions, read}
@@ -108,6 +108,18 @@ slot shares = 5
 slot parameters = 6
 slot other = 7
 
+-- the kind whose place it is
+abbrev pub kindAt : ℕ → Kind
+kindAt n =
+    cond (eqb n 0) name
+    (cond (eqb n 1) groups
+    (cond (eqb n 2) algorithms
+    (cond (eqb n 3) protocols
+    (cond (eqb n 4) versions
+    (cond (eqb n 5) shares
+    (cond (eqb n 6) parameters
+    other))))))
+
 abbrev pub nameAt : ℕ → Option (List ℕ) → List Part
 nameAt at none = []
 nameAt at (some n) = part at n ∷ []
@@ -156,20 +168,21 @@ pub record BodyAsked (k : Kind) (bs : List ℕ) (r : Asked) (old new : List ℕ)
   pub is : r .number ≡ asked k bs
   pub gained : r .number ≡ 0 → Gained k bs (r .ids) old new
 
--- the next extension at a place, after others of these types
-pub record StepFound (h : List ℕ) (at t start end : ℕ) (known : List ℕ) : Type 0 where
+-- the next extension at a place of the hello, after others of these types, and the place of its body in a survey's bodies
+pub record StepFound (h : List ℕ) (at t place start end : ℕ) (known : List ℕ) : Type 0 where
   pub found : Body
   pub body-is : bodyOf (kind t) (take (end - start) (drop start h)) ≡ some found
   pub is : (done : List Extension) → map typeOf done ≡ known → extension done (drop at h) ≡ result (entry (record { type = t; body = found }) (drop end h))
   pub good : asked (kind t) (take (end - start) (drop start h)) ≡ 0
   pub new : member t known ≡ false
+  pub place-is : place ≡ slot (kind t)
   pub room : length known < 64
   pub after-header : start ≡ at + 4
   pub forward : start ≤ end
   pub inside : end ≤ length h
 
 abbrev pub StepAs : Step → List ℕ → ℕ → List ℕ → List ℕ → List ℕ → Type 0
-StepAs (step.Next t start end n) h at known old new = StepFound h at t start end known × Gained (kind t) (take (end - start) (drop start h)) n old new
+StepAs (step.Next t place start end n) h at known old new = StepFound h at t place start end known × Gained (kind t) (take (end - start) (drop start h)) n old new
 StepAs (step.Refused n) h at known old new = ((done : List Extension) → map typeOf done ≡ known → extension done (drop at h) ≡ refused n) × IsNumber n
 
 -- a note lies inside the hello; the body there was found good, or the extension is not there and the note is empty
@@ -183,12 +196,12 @@ pub record IdsFound (block : ℕ) (es : List Extension) (n : ℕ) (ids : List �
   pub are : ids ≡ padded 64 0 (gathered numbersIn 0x0039 block es)
   pub count-is : n ≡ length (gathered numbersIn 0x0039 block es)
 
-pub record Surveyed (h : List ℕ) (block : ℕ) (r : Survey) (ids : List ℕ) : Type 0 where
+pub record Surveyed (h : List ℕ) (block : ℕ) (r : Survey) (types ids : List ℕ) : Type 0 where
   pub found : List Extension
   pub is : allExtensions (drop block h) ≡ result found
   pub count-is : r .count ≡ length found
   pub few : length found ≤ 64
-  pub types-are : r .types ≡ padded 64 (extType 0) (map extType (map typeOf found))
+  pub types-are : types ≡ padded 64 0 (map typeOf found)
   pub ids-are : IdsFound block found (r .«id_count») ids
   pub notes : (k : Kind) → Noted h block found k (getD (r .bodies) (slot k) (span 0 0))
 
@@ -197,15 +210,14 @@ unfoldable pub onward : List ℕ → ℕ → List Extension → ℕ → Answer (
 onward h block found at = walk (length (drop block h) - length found) found (drop at h)
 
 -- the walk's state before each extension
-pub record Walking (h : List ℕ) (block at count : ℕ) (types : List ExtType) (known : List ℕ) (marks : List Bool) (bodies : List Span) (ids : List ℕ) (id-count : ℕ) : Type 0 where
+pub record Walking (h : List ℕ) (block at count : ℕ) (types : List ℕ) (marks : List Bool) (bodies : List Span) (ids : List ℕ) (id-count : ℕ) : Type 0 where
   pub found : List Extension
   pub is : allExtensions (drop block h) ≡ onward h block found at
   pub place : at ≡ block + length (encodeExtensions found)
   pub inside : at ≤ length h
   pub count-is : count ≡ length found
   pub few : length found ≤ 64
-  pub types-are : types ≡ padded 64 (extType 0) (map extType (map typeOf found))
-  pub known-are : known ≡ padded 64 0 (map typeOf found)
+  pub types-are : types ≡ padded 64 0 (map typeOf found)
   pub marks-long : length marks ≡ 64
   pub marked : Marked marks (map typeOf found)
   pub bodies-long : length bodies ≡ 8
@@ -214,8 +226,8 @@ pub record Walking (h : List ℕ) (block at count : ℕ) (types : List ExtType) 
   pub notes : (k : Kind) → Noted h block found k (getD bodies (slot k) (span 0 0))
 
 -- 0 where the walk came to the end, else the number of the refusal
-pub record SurveyAs (h : List ℕ) (block : ℕ) (r : Survey) (ids : List ℕ) : Type 0 where
-  pub accepted : r .number ≡ 0 → Surveyed h block r ids
+pub record SurveyAs (h : List ℕ) (block : ℕ) (r : Survey) (types ids : List ℕ) : Type 0 where
+  pub accepted : r .number ≡ 0 → Surveyed h block r types ids
   pub refuses : 0 < r .number → allExtensions (drop block h) ≡ refused (r .number)
   pub bound : r .number ≤ 27
 
@@ -237,17 +249,17 @@ pub record Readable (h : List ℕ) (suites : Span) (r : Survey) : Type 0 where
   pub good : (k : Kind) → 0 < noteOf r k .length → asked k (partOf h (noteOf r k)) ≡ 0
 
 -- what was found is that of a ClientHello
-pub record FoundOf (h : List ℕ) (session : ℕ) (suites : Span) (r : Survey) (ids : List ℕ) (v : ClientHello) : Type 0 where
+pub record FoundOf (h : List ℕ) (session : ℕ) (suites : Span) (r : Survey) (types ids : List ℕ) (v : ClientHello) : Type 0 where
   pub session-is : length (v .sessionId) ≡ session
   pub suites-are : v .cipherSuites ≡ wordsIn (partOf h suites)
   pub count-is : r .count ≡ length (v .extensions)
-  pub types-are : r .types ≡ padded 64 (extType 0) (map extType (map typeOf (v .extensions)))
+  pub types-are : types ≡ padded 64 0 (map typeOf (v .extensions))
   pub ids-are : IdsFound (blockPlace v) (v .extensions) (r .«id_count») ids
   pub notes : (k : Kind) → Noted h (blockPlace v) (v .extensions) k (noteOf r k)
 
 -- the report of that ClientHello
-pub record Reported (h : List ℕ) (session : ℕ) (suites : Span) (found : Survey) (ids : List ℕ) (r : Fingerprint) : Type 0 where
-  pub is : (v : ClientHello) → FoundOf h session suites found ids v → r ≡ shown 0 (report v)
+pub record Reported (h : List ℕ) (session : ℕ) (suites : Span) (found : Survey) (types ids : List ℕ) (r : Fingerprint) : Type 0 where
+  pub is : (v : ClientHello) → FoundOf h session suites found types ids v → r ≡ shown 0 (report v)
 
 -- the number of a type
 abbrev pub typeNumber : ExtType → ℕ

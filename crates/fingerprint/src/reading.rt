@@ -12,6 +12,7 @@ use crate::Fingerprint;
 use crate::Sni;
 use crate::head::Head;
 use crate::head::read_head;
+use crate::report::ext_types;
 use crate::report::name_in;
 use crate::report::part;
 use crate::report::refused;
@@ -27,11 +28,12 @@ pub fn parse_clienthello(hello: &[u8]) -> Fingerprint
 {
     match read_head(hello) {
         Head::Fields(session, suites, block) => {
+            let mut types = [0u16; 64];
             let mut ids = [0u64; 64];
-            let found = survey_block(hello, block, &mut ids);
+            let found = survey_block(hello, block, &mut types, &mut ids);
             let number = found.number;
             if number == 0 {
-                return report(hello, session, suites, found, ids);
+                return report(hello, session, suites, found, types, ids);
             }
             refused(number)
         }
@@ -45,8 +47,9 @@ pub fn refusal(hello: &[u8]) -> u64
 {
     match read_head(hello) {
         Head::Fields(_, _, block) => {
+            let mut types = [0u16; 64];
             let mut ids = [0u64; 64];
-            let found = survey_block(hello, block, &mut ids);
+            let found = survey_block(hello, block, &mut types, &mut ids);
             found.number
         }
         Head::Refused(number) => number,
@@ -60,8 +63,9 @@ pub fn name_or<'a>(hello: &'a [u8], default: &'a [u8]) -> &'a [u8]
     let Head::Fields(_, _, block) = read_head(hello) else {
         return default;
     };
+    let mut types = [0u16; 64];
     let mut ids = [0u64; 64];
-    let found = survey_block(hello, block, &mut ids);
+    let found = survey_block(hello, block, &mut types, &mut ids);
     if found.number != 0 {
         return default;
     }
@@ -80,13 +84,13 @@ pub fn extension_set(hello: &[u8]) -> Types
     let Head::Fields(_, _, block) = read_head(hello) else {
         return no_types();
     };
+    let mut types = [0u16; 64];
     let mut ids = [0u64; 64];
-    let found = survey_block(hello, block, &mut ids);
+    let found = survey_block(hello, block, &mut types, &mut ids);
     if found.number != 0 {
         return no_types();
     }
-    let types = found.types;
-    sorted(types, found.count)
+    sorted(ext_types(&types), found.count)
 }
 
 fn no_types() -> Types

@@ -1,7 +1,9 @@
 // The report, built from what the head and the walk found.
 ghost use mathlib.Core.Path.{_≡_};
+ghost use mathlib.Core.List.{map};
 ghost use Prim.Native.Nat.{_+_, _≤_};
 ghost use lib.ListN.{length};
+ghost use Rattle.fingerprint_lists.specs.Arrays.{extType};
 ghost use Rattle.fingerprint.specs.Report.{shown, emptyReport};
 ghost use Rattle.fingerprint.specs.Code.{partOf, nameIn, Readable, Reported};
 use crate::Fingerprint;
@@ -65,15 +67,30 @@ pub fn name_in(body: Span) -> Sni
     })
 }
 
+// The types, from the numbers that the walk left: an array of structs could not be lent to it.
+pub fn ext_types(numbers: &[u16; 64]) -> [ExtType; 64]
+    requires { ⌜ length (now numbers) ≡ 64 ⌝ }
+    ensures { λ r. ⌜ r ≡ map extType (now (numbers .entry)) ⌝ }
+{
+    let mut types = [ExtType(0); 64];
+    let mut i: usize = 0;
+    while i < 64 {
+        types[i] = ExtType(numbers[i]);
+        i = i + 1;
+    }
+    types
+}
+
 pub fn report(
     hello: &[u8],
     session: usize,
     suites: Span,
     found: Survey,
+    types: [u16; 64],
     ids: [u64; 64],
 ) -> Fingerprint
     requires { ⌜ Readable (now hello) suites found ⌝ }
-    ensures { λ r. ⌜ Reported (now (hello .entry)) session suites found ids r ⌝ }
+    ensures { λ r. ⌜ Reported (now (hello .entry)) session suites found types ids r ⌝ }
 {
     let bodies = found.bodies;
     let suite_list = fingerprint_lists::words_in(part(hello, suites));
@@ -83,7 +100,6 @@ pub fn report(
     let versions = fingerprint_lists::word_list(part(hello, bodies[4]), 1);
     let at_protocols = bodies[3];
     let alpn = fingerprint_lists::protocol_names(part(hello, at_protocols), at_protocols.start);
-    let types = found.types;
     let suite_items = suite_list.items;
     let group_items = groups.items;
     let share_items = shares.items;
@@ -95,7 +111,7 @@ pub fn report(
         legacy_session_id_len: session,
         cipher_suites: suite_items,
         suite_count: suite_list.count,
-        extensions: types,
+        extensions: ext_types(&types),
         extension_count: found.count,
         supported_groups: group_items,
         group_count: groups.count,

@@ -7,18 +7,16 @@ ghost use Rattle.wire.specs.Sums.{member};
 ghost use Rattle.fingerprint_bodies.specs.Body.{kind};
 ghost use Rattle.fingerprint_parameters.specs.Code.{Marked};
 ghost use Rattle.fingerprint.specs.Code as code;
-ghost use Rattle.fingerprint.specs.Code.{HeaderAs, BodyAsked, StepAs, SurveyAs};
+ghost use Rattle.fingerprint.specs.Code.{kindAt, HeaderAs, BodyAsked, StepAs, SurveyAs};
 use fingerprint_lists::Span;
 use fingerprint_parameters::Asked;
 use fingerprint_parameters::without_ids;
-use profiles::ExtType;
 use wire::be16;
 
-// What the walk found: the number of the refusal, or 0, the types, for each kind of body the part of the hello that holds it, empty
-// where there is none, and how many parameter ids there are.
+// What the walk found: the number of the refusal, or 0, how many extensions there are, for each kind of body the part of the hello that
+// holds it, empty where there is none, and how many parameter ids there are.
 pub struct Survey {
     pub number: u64,
-    pub types: [ExtType; 64],
     pub count: usize,
     pub bodies: [Span; 8],
     pub id_count: usize,
@@ -30,9 +28,10 @@ pub enum Header {
     Cut,
 }
 
-// One extension: its type, its body's ends, and how many parameter ids it has; or the number of the refusal.
+// One extension: its type, the place of its body in a survey, its body's ends, and how many parameter ids it has; or the number of the
+// refusal.
 pub enum Step {
-    Next(u16, usize, usize, usize),
+    Next(u16, usize, usize, usize, usize),
     Refused(u64),
 }
 
@@ -52,19 +51,20 @@ fn slot(t: u16) -> usize
     }
 }
 
-// The questions of a body: each goes to its own reader. Question 22 reads all parameter ids, and they are left in the array.
-fn ask_body(t: u16, body: &[u8], ids: &mut [u64; 64]) -> Asked
+// The questions of a body, by its kind's place: each goes to its own reader. Question 22 reads all parameter ids, and they are left in
+// the array.
+fn ask_body(place: usize, body: &[u8], ids: &mut [u64; 64]) -> Asked
     requires { ⌜ length (now ids) ≡ 64 ⌝ }
-    ensures { λ r. ⌜ BodyAsked (kind t) (now (body .entry)) r (now (ids .entry)) (now (ids .exit)) ⌝ }
+    ensures { λ r. ⌜ BodyAsked (kindAt place) (now (body .entry)) r (now (ids .entry)) (now (ids .exit)) ⌝ }
 {
-    match t {
-        0x0000 => without_ids(fingerprint_bodies::ask_name(body)),
-        0x000a => without_ids(fingerprint_bodies::ask_words(body, 2)),
-        0x000d => without_ids(fingerprint_bodies::ask_words(body, 2)),
-        0x0010 => without_ids(fingerprint_bodies::ask_protocols(body)),
-        0x002b => without_ids(fingerprint_bodies::ask_words(body, 1)),
-        0x0033 => without_ids(fingerprint_bodies::ask_shares(body)),
-        0x0039 => fingerprint_parameters::ask_parameters(body, ids),
+    match place {
+        0 => without_ids(fingerprint_bodies::ask_name(body)),
+        1 => without_ids(fingerprint_bodies::ask_words(body, 2)),
+        2 => without_ids(fingerprint_bodies::ask_words(body, 2)),
+        3 => without_ids(fingerprint_bodies::ask_protocols(body)),
+        4 => without_ids(fingerprint_bodies::ask_words(body, 1)),
+        5 => without_ids(fingerprint_bodies::ask_shares(body)),
+        6 => fingerprint_parameters::ask_parameters(body, ids),
         _ => without_ids(0),
     }
 }
@@ -136,7 +136,8 @@ fn extension(
     if is_known(known, count, marks, t) {
         return Step::Refused(21);
     }
-    let asked = ask_body(t, &hello[start..end], ids);
+    let place = slot(t);
+    let asked = ask_body(place, &hello[start..end], ids);
     let number = asked.number;
     if number != 0 {
         return Step::Refused(number);
@@ -144,7 +145,7 @@ fn extension(
     if 64 <= count {
         return Step::Refused(23);
     }
-    Step::Next(t, start, end, asked.ids)
+    Step::Next(t, place, start, end, asked.ids)
 }
 
 fn refused(number: u64) -> Survey
@@ -152,7 +153,6 @@ fn refused(number: u64) -> Survey
 {
     Survey {
         number,
-        types: [ExtType(0); 64],
         count: 0,
         bodies: [Span {
             start: 0,
@@ -162,15 +162,16 @@ fn refused(number: u64) -> Survey
     }
 }
 
-// The whole block, from a place on; parameter ids are left in an array of zeros. The types stand in a second array as numbers, for an
-// array of structs cannot be lent.
-pub fn survey_block(hello: &[u8], block: usize, ids: &mut [u64; 64]) -> Survey
-    requires { ⌜ (block ≤ length (now hello)) × (length (now hello) ≤ 16384) × (now ids ≡ replicate 64 0) ⌝ }
-    ensures { λ r. ⌜ SurveyAs (now (hello .entry)) block r (now (ids .exit)) ⌝ }
+// The whole block, from a place on; types and parameter ids are left in arrays of zeros.
+pub fn survey_block(
+    hello: &[u8],
+    block: usize,
+    types: &mut [u16; 64],
+    ids: &mut [u64; 64],
+) -> Survey
+    requires { ⌜ (block ≤ length (now hello)) × (length (now hello) ≤ 16384) × (now types ≡ replicate 64 0) × (now ids ≡ replicate 64 0) ⌝ }
+    ensures { λ r. ⌜ SurveyAs (now (hello .entry)) block r (now (types .exit)) (now (ids .exit)) ⌝ }
 {
-    let n = hello.len();
-    let mut types = [ExtType(0); 64];
-    let mut known: [u16; 64] = [0; 64];
     let mut marks = [false; 64];
     let mut bodies = [Span {
         start: 0,
@@ -179,13 +180,12 @@ pub fn survey_block(hello: &[u8], block: usize, ids: &mut [u64; 64]) -> Survey
     let mut count: usize = 0;
     let mut id_count: usize = 0;
     let mut at = block;
-    while at < n {
-        match extension(hello, at, &known, count, &marks, ids) {
-            Step::Next(t, start, end, new_ids) => {
-                types[count] = ExtType(t);
-                known[count] = t;
+    while at < hello.len() {
+        match extension(hello, at, types, count, &marks, ids) {
+            Step::Next(t, place, start, end, new_ids) => {
+                types[count] = t;
                 marks[mark(t)] = true;
-                bodies[slot(t)] = Span {
+                bodies[place] = Span {
                     start,
                     length: end - start,
                 };
@@ -200,7 +200,6 @@ pub fn survey_block(hello: &[u8], block: usize, ids: &mut [u64; 64]) -> Survey
     }
     Survey {
         number: 0,
-        types,
         count,
         bodies,
         id_count,

@@ -69,7 +69,7 @@ fn groups_in(list: &[u8]) -> Groups
 }
 
 // The bytes after a count in `width` bytes; none where the extension is not there.
-fn after(body: &[u8], width: usize) -> &[u8]
+pub fn after(body: &[u8], width: usize) -> &[u8]
     ensures { λ r. ⌜ now r ≡ drop width (now (body .entry)) ⌝ }
 {
     if body.len() < width {

@@ -17,14 +17,14 @@ enum-known-session : tie.Need-enum-known-session
 enum-known-session c = search needs
 
 survey-block-requires : tie.Need-survey-block-requires
-survey-block-requires c κs = (head (c .before) .inside, head (c .before) .short, refl)
+survey-block-requires c κs = (head (c .before .before) .inside, head (c .before .before) .short, refl, refl)
 
 report-requires : tie.Need-report-requires
-report-requires c κs = readable (head (c .before .before .before)) ((c .before .survey-block .ensures .accepted) (c .if1 .taken))
+report-requires c κs = readable (head (c .before .before .before .before)) ((c .before .survey-block .ensures .accepted) (c .if1 .taken))
 
 returns : tie.Need-returns
 returns c =
-    let head = head (c .before .before .before .before) in
+    let head = head (c .before .before .before .before .before) in
     let s = (c .before .before .survey-block .ensures .accepted) (c .before .if1 .taken) in
     parsed-result head s (c .report .result) ((c .report .ensures .is) (helloOf head s) (found-of head s))
 
@@ -39,7 +39,7 @@ refused-requires-2 c κs = search needs
 
 returns-2 : tie.Need-returns-2
 returns-2 c =
-    let e = read-refused (head (c .before .before .before .before)) (c .before .before .survey-block .result .number) ((c .before .before .survey-block .ensures .refuses) (omega (arith, (c .before .if1 .left)))) in
+    let e = read-refused (head (c .before .before .before .before .before)) (c .before .before .survey-block .result .number) ((c .before .before .survey-block .ensures .refuses) (omega (arith, (c .before .if1 .left)))) in
     (c .refused .ensures) ∙ refused-result e
 
 returns-3 : tie.Need-returns-3

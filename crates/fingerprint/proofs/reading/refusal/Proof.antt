@@ -17,13 +17,13 @@ enum-known-block : tie.Need-enum-known-block
 enum-known-block c = search needs
 
 survey-block-requires : tie.Need-survey-block-requires
-survey-block-requires c κs = (head (c .before) .inside, head (c .before) .short, refl)
+survey-block-requires c κs = (head (c .before .before) .inside, head (c .before .before) .short, refl, refl)
 
 enum-known-number : tie.Need-enum-known-number
 enum-known-number c = search needs
 
 returns : tie.Need-returns
-returns c = survey-number (head (c .before .before)) (c .survey-block .ensures)
+returns c = survey-number (head (c .before .before .before)) (c .survey-block .ensures)
 
 returns-2 : tie.Need-returns-2
 unfolding numberOf

@@ -68,17 +68,20 @@ protocol-names-requires c κs =
     let p = (c .before .before .before .before .before .before .before .before .before .before .before .before .before .before .before .before .before .before .pre) in
     rw (c .part6 .ensures) (good-protocols p, omega (arith, length-note p protocols, p .inside protocols, p .short))
 
+ext-types-requires : tie.Need-ext-types-requires
+ext-types-requires c κs = omega (arith, c .before .before .before .before .before .before .before .before .before .before .before .before .before .before .before .before .before .before .before .before .before .before .before .before .before .before .good)
+
 array-copy-out-name-in : tie.Need-array-copy-out-name-in
 array-copy-out-name-in c = search needs
 
 name-in-requires : tie.Need-name-in-requires
 name-in-requires c κs =
-    let p = (c .before .before .before .before .before .before .before .before .before .before .before .before .before .before .before .before .before .before .before .before .before .before .before .before .before .before .before .pre) in
+    let p = (c .before .before .before .before .before .before .before .before .before .before .before .before .before .before .before .before .before .before .before .before .before .before .before .before .before .before .before .before .pre) in
     omega (arith, p .inside name, p .short)
 
 returns : tie.Need-returns
 returns c =
-    let names = c .before .before .before .before .before .before .before .before .before in
+    let names = c .before .before .before .before .before .before .before .before .before .before in
     let versions = names .before .before .before in
     let algorithms = versions .before .before .before in
     let shares = algorithms .before .before .before in
@@ -89,6 +92,7 @@ returns c =
       is = λ v f.
           report-shown f
           (suites .words-in .result)
+          (c .before .before .ext-types .result)
           (groups .group-list .result)
           (shares .key-share-groups .result)
           (algorithms .word-list .result)
@@ -96,6 +100,7 @@ returns c =
           (names .protocol-names .result)
           (c .name-in .result)
           (suites .words-in .ensures ∙ ap (λ (b : List ℕ). wordsOf (wordsIn b)) (suites .before .part .ensures))
+          (c .before .before .ext-types .ensures)
           (groups .group-list .ensures ∙ ap (λ (b : List ℕ). groupsOf (orEmpty (wordList 2 b))) (groups .before .part2 .ensures))
           (shares .key-share-groups .ensures ∙ ap (λ (b : List ℕ). groupsOf (map groupOf (orEmpty (keyShares b)))) (shares .before .part3 .ensures))
           (algorithms .word-list .ensures ∙ ap (λ (b : List ℕ). wordsOf (orEmpty (wordList 2 b))) (algorithms .before .part4 .ensures))
@@ -125,6 +130,7 @@ report-spec =
     array-copy-out-at-protocols
     part-requires-6
     protocol-names-requires
+    ext-types-requires
     array-copy-out-name-in
     name-in-requires
     returns)

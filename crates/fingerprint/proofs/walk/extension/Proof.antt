@@ -1,14 +1,15 @@
 -- `extension` asks the questions in the order of `askBody`. Assumes nothing.
 use Prim.Native.Nat.{ℕ, _-_}
-use mathlib.Core.Path.{_≡_, sym, _∙_, subst}
+use mathlib.Core.Path.{_≡_, sym, ap, _∙_, subst}
 use mathlib.Core.Bool.{false}
 use mathlib.Core.List.{List}
 use lib.ListN.{length, take, drop}
 use lib.Seq.{length-take-le}
 use Rattle.wire.specs.Sums.{member}
-use Rattle.fingerprint_bodies.specs.Body.{kind}
-use Rattle.fingerprint.specs.Code.{HeaderFound, HeaderAs}
+use Rattle.fingerprint_bodies.specs.Body.{Kind, kind}
+use Rattle.fingerprint.specs.Code.{kindAt, HeaderFound, HeaderAs, BodyAsked}
 use Rattle.fingerprint.specs.declared.walk.Header.{Header}
+use Rattle.fingerprint.proofs.KindLaws.{kind-at-slot}
 use Rattle.fingerprint.proofs.StepLaws.{step-cut, step-known, step-bad, step-full, step-found, asked-small}
 use denote.Ref.{now}
 use native.Mathlib.Omega.{arith}
@@ -39,6 +40,19 @@ count-is c =
 new : (c : tie.Else1) → member (c .before .before .before .t .given .0 .0) (types (c .before .before)) ≡ false
 new c = sym (c .before .is-known .ensures) ∙ c .if1 .left
 
+-- the kind at the type's place is the type's
+body-asked : (c : tie.After-ask-body) →
+    let told = c .before .before .before .before .before .before in
+    let given = told .before .t .given .0 in
+    let args = told .before .before .before .before .before .args in
+    BodyAsked (kind (given .0)) (take (given .1 .1 .0 - given .1 .0) (drop (given .1 .0) (now (args .hello)))) (c .ask-body .result) (now (args .ids)) (c .ask-body .last .1 .1 .0)
+body-asked c =
+    let told = c .before .before .before .before .before .before in
+    let given = told .before .t .given .0 in
+    let args = told .before .before .before .before .before .args in
+    subst (λ (k : Kind). BodyAsked k (take (given .1 .1 .0 - given .1 .0) (drop (given .1 .0) (now (args .hello)))) (c .ask-body .result) (now (args .ids)) (c .ask-body .last .1 .1 .0))
+    (ap kindAt (c .before .before .before .slot .ensures) ∙ kind-at-slot (kind (given .0))) (c .ask-body .ensures)
+
 read-header-requires : tie.Need-read-header-requires
 read-header-requires c κs = search needs
 
@@ -62,41 +76,46 @@ returns-2 c =
     let told = c .before .before in
     (step-known (found told) (types told) (sym (c .before .is-known .ensures) ∙ c .if1 .taken), (omega arith, omega arith))
 
+slot-requires : tie.Need-slot-requires
+slot-requires c κs = search needs
+
 sub-ask-body : tie.Need-sub-ask-body
-sub-ask-body c = (found (c .before .before)) .forward
+sub-ask-body c = (found (c .before .before .before)) .forward
 
 part-ask-body-start : tie.Need-part-ask-body-start
-part-ask-body-start c = (found (c .before .before)) .forward
+part-ask-body-start c = (found (c .before .before .before)) .forward
 
 part-ask-body-end : tie.Need-part-ask-body-end
-part-ask-body-end c = (found (c .before .before)) .inside
+part-ask-body-end c = (found (c .before .before .before)) .inside
 
 ask-body-requires : tie.Need-ask-body-requires
 ask-body-requires c κs = search needs
 
 returns-3 : tie.Need-returns-3
 returns-3 c =
-    let told = c .before .before .before .before .before .before in
+    let told = c .before .before .before .before .before .before .before in
     let given = told .before .t .given .0 in
     let bytes : List ℕ = take (given .1 .1 .0 - given .1 .0) (drop (given .1 .0) (now (told .before .before .before .before .before .args .hello))) in
-    let asked = c .before .ask-body in
+    let number = c .before .ask-body .result .number in
+    let is = body-asked (c .before) .is in
     let small = asked-small (kind (given .0)) bytes in
-    (step-bad (found told) (types told) (new (c .before .before .before .before)) (asked .result .number) (asked .ensures .is) (c .if2 .taken), (omega (arith, c .if2 .taken), omega (arith, small, asked .ensures .is)))
+    (step-bad (found told) (types told) (new (c .before .before .before .before .before)) number is (c .if2 .taken), (omega (arith, c .if2 .taken), omega (arith, small, is)))
 
 returns-4 : tie.Need-returns-4
 returns-4 c =
-    let told = c .before .before .before .before .before .before .before in
-    let asked = c .before .before .ask-body in (
-      step-full (found told) (types told) (new (c .before .before .before .before .before)) (sym (asked .ensures .is) ∙ c .before .if2 .left) (omega (arith, count-is told, c .if3 .taken)),
+    let told = c .before .before .before .before .before .before .before .before in
+    let asked = body-asked (c .before .before) in (
+      step-full (found told) (types told) (new (c .before .before .before .before .before .before)) (sym (asked .is) ∙ c .before .if2 .left) (omega (arith, count-is told, c .if3 .taken)),
       (omega arith, omega arith),
     )
 
 returns-5 : tie.Need-returns-5
 returns-5 c =
-    let told = c .before .before .before .before .before .before .before in
-    let asked = c .before .before .ask-body in (
-      step-found (found told) (types told) (new (c .before .before .before .before .before)) (sym (asked .ensures .is) ∙ c .before .if2 .left) (omega (arith, count-is told, c .if3 .left)),
-      asked .ensures .gained (c .before .if2 .left),
+    let told = c .before .before .before .before .before .before .before .before in
+    let asked = body-asked (c .before .before) in
+    let place = c .before .before .before .before .before .slot in (
+      step-found (found told) (types told) (new (c .before .before .before .before .before .before)) (sym (asked .is) ∙ c .before .if2 .left) (place .ensures) (omega (arith, count-is told, c .if3 .left)),
+      asked .gained (c .before .if2 .left),
     )
 
 pub extension-spec : {M : Type 1} → statement M
@@ -109,6 +128,7 @@ extension-spec =
     returns
     is-known-requires
     returns-2
+    slot-requires
     sub-ask-body
     part-ask-body-start
     part-ask-body-end

@@ -10,44 +10,47 @@ use Rattle.fingerprint.specs.declared.walk.Step.{Step}
 use Rattle.fingerprint.specs.declared.walk.Step.the-variants as step
 use Rattle.fingerprint.proofs.KindLaws.{slot-small}
 use Rattle.fingerprint.proofs.IdLaws.{few-gained, few-found}
-use Rattle.fingerprint.proofs.WalkLaws.{walking-start, walking-next, walking-stop, walking-end, known-long, known-marked, has-room}
+use Rattle.fingerprint.proofs.WalkLaws.{walking-start, walking-next, walking-stop, walking-end, types-long, types-marked, has-room}
 use borrow.Author.Needs.{needs}
 use native.Mathlib.Omega.{arith}
 use Rattle.fingerprint.proofs.walk.survey_block.Statement.{statement}
 use Rattle.fingerprint.proofs.walk.survey_block.Tie as tie
 
 abbrev Inv-loop : tie.InvT-loop
-Inv-loop hello block ids₀ n types₀ known₀ marks₀ bodies₀ count₀ id-count₀ at₀ ids types known marks bodies count id-count at =
-    Walking hello block at count types known marks bodies ids id-count
+Inv-loop hello block types₀ ids₀ marks₀ bodies₀ count₀ id-count₀ at₀ types ids marks bodies count id-count at =
+    Walking hello block at count types marks bodies ids id-count
 
 abbrev μ-loop : tie.MeasureT-loop
-μ-loop hello block ids₀ n types₀ known₀ marks₀ bodies₀ count₀ id-count₀ at₀ ids types known marks bodies count id-count at =
+μ-loop hello block types₀ ids₀ marks₀ bodies₀ count₀ id-count₀ at₀ types ids marks bodies count id-count at =
     length hello - at
 
 found : (c : tie.After-known-told Inv-loop μ-loop) →
     let h = now (c .before .before .before .before .before .before .before .before .before .before .args .hello) in
     let l = c .before .before .before .before .before .before .before .before .loop in
     let given = c .before .t .given .0 in
-    StepAs (step.Next (given .0) (given .1 .0) (given .1 .1 .0) (given .1 .1 .1 .0)) h (l .at) (take (l .count) (l .known)) (l .ids) (c .before .before .before .extension .last .1 .1 .1 .1 .1 .0)
+    StepAs (step.Next (given .0) (given .1 .0) (given .1 .1 .0) (given .1 .1 .1 .0) (given .1 .1 .1 .1 .0)) h (l .at) (take (l .count) (l .types)) (l .ids) (c .before .before .before .extension .last .1 .1 .1 .1 .1 .0)
 found c =
     let h = now (c .before .before .before .before .before .before .before .before .before .before .args .hello) in
     let l = c .before .before .before .before .before .before .before .before .loop in
     let called = c .before .before .before .extension in
-    subst (λ (x : Step). StepAs x h (l .at) (take (l .count) (l .known)) (l .ids) (called .last .1 .1 .1 .1 .1 .0)) (c .before .t .given .1) (called .ensures)
+    subst (λ (x : Step). StepAs x h (l .at) (take (l .count) (l .types)) (l .ids) (called .last .1 .1 .1 .1 .1 .0)) (c .before .t .given .1) (called .ensures)
 
 room : (c : tie.After-known-told Inv-loop μ-loop) → c .before .before .before .before .before .before .before .before .loop .count < 64
 room c = has-room (c .before .before .before .before .before .before .before .before .loop .inv) (found c .0 .room)
+
+place-small : (c : tie.After-mark Inv-loop μ-loop) → c .before .before .t .given .0 .1 .0 < 8
+place-small c = omega (arith, found (c .before) .0 .place-is, slot-small (kind (c .before .before .t .given .0 .0)))
 
 loop-holds : tie.Need-loop-holds Inv-loop μ-loop
 loop-holds c =
     let args = c .before .args in
     let pre = c .before .pre in
-    rw (pre .2) (walking-start (now (args .hello)) (args .block) (pre .0))
+    rw (pre .2, pre .3) (walking-start (now (args .hello)) (args .block) (pre .0))
 
 extension-requires : tie.Need-extension-requires Inv-loop μ-loop
 extension-requires c κs =
     let w = c .before .before .before .before .loop .inv in
-    (w .inside, c .before .before .before .before .before .before .pre .1, omega (arith, w .count-is, w .few), known-long w, w .marks-long, known-marked w, w .ids-long)
+    (w .inside, c .before .before .before .before .before .before .pre .1, omega (arith, w .count-is, w .few), types-long w, w .marks-long, types-marked w, w .ids-long)
 
 enum-known-t : tie.Need-enum-known-t Inv-loop μ-loop
 enum-known-t c = search needs
@@ -55,14 +58,8 @@ enum-known-t c = search needs
 mul-types : tie.Need-mul-types Inv-loop μ-loop
 mul-types c = omega (arith, room c)
 
-array-set-from-types : tie.Need-array-set-from-types Inv-loop μ-loop
-array-set-from-types c = omega (arith, room c)
-
-mul-known : tie.Need-mul-known Inv-loop μ-loop
-mul-known c = omega (arith, room c)
-
-array-write-known : tie.Need-array-write-known Inv-loop μ-loop
-array-write-known c = omega (arith, room c)
+element-write-types : tie.Need-element-write-types Inv-loop μ-loop
+element-write-types c = omega (arith, room c, types-long (c .before .before .before .before .before .before .before .before .loop .inv))
 
 mark-requires : tie.Need-mark-requires Inv-loop μ-loop
 mark-requires c κs = search needs
@@ -70,36 +67,33 @@ mark-requires c κs = search needs
 array-write-marks : tie.Need-array-write-marks Inv-loop μ-loop
 array-write-marks c = omega (arith, c .mark .ensures)
 
-sub-t25 : tie.Need-sub-t25 Inv-loop μ-loop
-sub-t25 c = found (c .before) .0 .forward
-
-slot-requires : tie.Need-slot-requires Inv-loop μ-loop
-slot-requires c κs = search needs
+sub-t23 : tie.Need-sub-t23 Inv-loop μ-loop
+sub-t23 c = found (c .before) .0 .forward
 
 mul-bodies : tie.Need-mul-bodies Inv-loop μ-loop
-mul-bodies c = omega (arith, c .slot .ensures, slot-small (kind (c .before .before .before .t .given .0 .0)))
+mul-bodies c = omega (arith, place-small c)
 
 array-set-from-bodies : tie.Need-array-set-from-bodies Inv-loop μ-loop
-array-set-from-bodies c = omega (arith, c .slot .ensures, slot-small (kind (c .before .before .before .t .given .0 .0)))
+array-set-from-bodies c = omega (arith, place-small c)
 
 add-count : tie.Need-add-count Inv-loop μ-loop
-add-count c = omega (arith, room (c .before .before))
+add-count c = omega (arith, room (c .before))
 
 add-id-count : tie.Need-add-id-count Inv-loop μ-loop
 add-id-count c =
-    let w = c .before .before .before .before .before .before .before .before .before .before .loop .inv in
-    omega (arith, few-gained (found (c .before .before) .1), few-found (w .ids-are) (w .ids-long))
+    let w = c .before .before .before .before .before .before .before .before .before .loop .inv in
+    omega (arith, few-gained (found (c .before) .1), few-found (w .ids-are) (w .ids-long))
 
 loop-less : tie.Need-loop-less Inv-loop μ-loop
 loop-less c =
-    let s = found (c .before .before) .0 in
-    omega (arith, s .after-header, s .forward, s .inside, c .before .before .before .before .before .before .before .before .before .loop-test .taken)
+    let s = found (c .before) .0 in
+    omega (arith, s .after-header, s .forward, s .inside, c .before .before .before .before .before .before .before .before .loop-test .taken)
 
 loop-again : tie.Need-loop-again Inv-loop μ-loop
 loop-again c =
-    let w = c .before .before .before .before .before .before .before .before .before .before .loop .inv in
-    let s = found (c .before .before) in
-    walking-next w (c .before .mark .ensures) (c .slot .ensures) (λ i. c .before .before .before .before .before .before .before .before .before .before .before .shared-slice-known .given i .fits) (c .before .before .before .before .before .before .before .before .before .loop-test .taken) (s .0) (s .1)
+    let w = c .before .before .before .before .before .before .before .before .before .loop .inv in
+    let s = found (c .before) in
+    walking-next w (c .mark .ensures) (λ i. c .before .before .before .before .before .before .before .before .before .before .shared-slice-known .given i .fits) (c .before .before .before .before .before .before .before .before .loop-test .taken) (s .0) (s .1)
 
 enum-known-number : tie.Need-enum-known-number Inv-loop μ-loop
 enum-known-number c = search needs
@@ -113,8 +107,8 @@ returns c =
     let l = c .before .before .before .before .before .before .before .before .before .loop in
     let n = c .before .before .number .given .0 .0 in
     let called = c .before .before .before .before .extension in
-    let s : StepAs (step.Refused n) h (l .at) (take (l .count) (l .known)) (l .ids) (called .last .1 .1 .1 .1 .1 .0) =
-    subst (λ (x : Step). StepAs x h (l .at) (take (l .count) (l .known)) (l .ids) (called .last .1 .1 .1 .1 .1 .0)) (c .before .before .number .given .1) (called .ensures) in
+    let s : StepAs (step.Refused n) h (l .at) (take (l .count) (l .types)) (l .ids) (called .last .1 .1 .1 .1 .1 .0) =
+    subst (λ (x : Step). StepAs x h (l .at) (take (l .count) (l .types)) (l .ids) (called .last .1 .1 .1 .1 .1 .0)) (c .before .before .number .given .1) (called .ensures) in
     record {
       accepted = λ z. absurd (omega (arith, z, c .refused .ensures, s .1 .0));
       refuses = λ z. walking-stop (l .inv) n (c .before .before .before .before .before .before .before .before .loop-test .taken) (s .0) ∙ ap (λ (k : ℕ). refused k) (sym (c .refused .ensures));
@@ -139,13 +133,10 @@ survey-block-spec =
     extension-requires
     enum-known-t
     mul-types
-    array-set-from-types
-    mul-known
-    array-write-known
+    element-write-types
     mark-requires
     array-write-marks
-    sub-t25
-    slot-requires
+    sub-t23
     mul-bodies
     array-set-from-bodies
     add-count

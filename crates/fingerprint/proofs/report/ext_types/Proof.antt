@@ -1,0 +1,82 @@
+-- `ext_types` fills the array with one type after the other. Assumes nothing.
+use mathlib.Core.Path.{_≡_, refl, ap, _∙_}
+use Prim.Native.Nat.{_+_, _-_}
+use mathlib.Core.List.{List, _∷_, map, append-nil}
+use lib.ListN.{length, drop, getD, length-map, drop-of-length-le}
+use lib.Seq.{drop-cons}
+use native.Mathlib.Numerals.{add-one}
+use Rattle.profiles.specs.declared.ExtType.{ExtType}
+use Rattle.fingerprint_lists.specs.Arrays.{extType, padded}
+use Rattle.fingerprint_lists.proofs.FillLaws.{Filled, filled-start, filled-next, filled-end, filled-as}
+use borrow.Author.Needs.{needs}
+use native.Mathlib.Omega.{arith}
+use Rattle.fingerprint.proofs.report.ext_types.Statement.{statement}
+use Rattle.fingerprint.proofs.report.ext_types.Tie as tie
+
+abbrev Inv-loop : tie.InvT-loop
+Inv-loop numbers types₀ i₀ types i =
+    Filled 64 (extType 0) (map extType numbers) i types (map extType (drop i numbers))
+
+abbrev μ-loop : tie.MeasureT-loop
+μ-loop numbers types₀ i₀ types i = 64 - i
+
+-- types in every place
+filled-all : (l : List ExtType) → length l ≡ 64 → padded 64 (extType 0) l ≡ l
+unfolding padded
+filled-all l e =
+    let none : 64 - length l ≡ 0 = omega (arith, e) in
+    rw none (append-nil l)
+
+loop-holds : tie.Need-loop-holds Inv-loop μ-loop
+loop-holds c = filled-start 64 (extType 0) (map extType (c .args .numbers .now)) (map extType (c .args .numbers .now)) refl
+
+mul-t6 : tie.Need-mul-t6 Inv-loop μ-loop
+mul-t6 c = search needs
+
+element-copy-out-t9 : tie.Need-element-copy-out-t9 Inv-loop μ-loop
+element-copy-out-t9 c = search needs
+
+mul-types : tie.Need-mul-types Inv-loop μ-loop
+mul-types c = search needs
+
+array-set-from-types : tie.Need-array-set-from-types Inv-loop μ-loop
+array-set-from-types c = search needs
+
+add-i : tie.Need-add-i Inv-loop μ-loop
+add-i c = search needs
+
+loop-less : tie.Need-loop-less Inv-loop μ-loop
+loop-less c = search needs
+
+loop-again : tie.Need-loop-again Inv-loop μ-loop
+loop-again c =
+    let l = c .before .before .loop in
+    let s = c .before .before .before .args .numbers .now in
+    let long : length s ≡ 64 = c .before .before .before .pre in
+    let r = map extType (drop (l .i + 1) s) in
+    let next : drop (l .i) s ≡ getD s (l .i) 0 ∷ drop (l .i + 1) s = rw (add-one (l .i)) (drop-cons s (l .i) 0 (omega (arith, c .before .loop-test .taken))) in
+    filled-next 64 (extType 0) (map extType s) (l .i) (l .types) (omega (arith, length-map s extType, long)) (extType (getD s (l .i) 0)) r (filled-as (ap (map extType) next) (l .inv))
+
+returns : tie.Need-returns Inv-loop μ-loop
+returns c =
+    let l = c .before .loop in
+    let s = c .before .before .args .numbers .now in
+    let long : length s ≡ 64 = c .before .before .pre in
+    let f = filled-as (ap (map extType) (drop-of-length-le s {i = l .i} (omega (arith, c .loop-test .left, long)))) (l .inv) in
+    filled-end 64 (extType 0) (map extType s) (l .i) (l .types) f ∙ filled-all (map extType s) (length-map s extType ∙ long)
+
+pub ext-types-spec : {M : Type 1} → statement M
+ext-types-spec =
+    tie.close
+    (tie.spec
+    Inv-loop
+    μ-loop
+    loop-holds
+    mul-t6
+    element-copy-out-t9
+    mul-types
+    array-set-from-types
+    add-i
+    loop-less
+    loop-again
+    returns)
