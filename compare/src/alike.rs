@@ -1,12 +1,15 @@
 //! Alike, which the original does not have. The driver says what it must answer from what the original reads in two hellos
 //! (alike/likeness.rs). Each pair is asked in both orders.
 
-mod changes;
-mod likeness;
-mod made;
+pub(crate) mod changes;
+pub(crate) mod likeness;
+pub(crate) mod made;
 mod pairs;
-mod pieces;
+pub(crate) mod pieces;
 mod question;
+mod timing;
+
+pub(crate) use timing::time;
 
 use crate::join::LIMIT;
 use crate::make;

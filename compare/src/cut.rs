@@ -72,7 +72,7 @@ fn draw(random: &mut Random) -> Question {
 }
 
 /// The frames of `c` data bytes in offset order, the last perhaps shorter; none where `c` is 0.
-fn frames(c: u64, hello: &[u8]) -> Vec<u8> {
+pub(crate) fn frames(c: u64, hello: &[u8]) -> Vec<u8> {
     let size = usize::try_from(c).unwrap_or(usize::MAX);
     if size == 0 {
         return Vec::new();
@@ -84,23 +84,26 @@ fn frames(c: u64, hello: &[u8]) -> Vec<u8> {
         .collect()
 }
 
+/// The frames at the front of the output. Questions 24 to 26 are put in from document 01.
+pub(crate) fn write_by_law(c: u64, hello: &[u8], out: &mut [u8]) -> Told {
+    if c < 1 || (LIMIT as u64) < c {
+        return Err(24);
+    }
+    if LIMIT < hello.len() {
+        return Err(25);
+    }
+    let frames = frames(c, hello);
+    let front = out.get_mut(..frames.len()).ok_or(26u64)?;
+    front.copy_from_slice(&frames);
+    Ok(frames.len() as u64)
+}
+
 impl Ask for Question {
     type Answer = Answer;
 
-    /// Questions 24 to 26 are put in from document 01.
     fn by_rust(&self) -> Answer {
-        let frames = frames(self.c, &self.hello);
         let mut out = vec![UNTOUCHED; self.room];
-        let length = if self.c < 1 || (LIMIT as u64) < self.c {
-            Err(24)
-        } else if LIMIT < self.hello.len() {
-            Err(25)
-        } else if self.room < frames.len() {
-            Err(26)
-        } else {
-            out[..frames.len()].copy_from_slice(&frames);
-            Ok(frames.len() as u64)
-        };
+        let length = write_by_law(self.c, &self.hello, &mut out);
         Answer { length, out }
     }
 

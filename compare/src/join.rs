@@ -1,8 +1,10 @@
 //! `reassemble_crypto` of the original's fingerprint.rs, on lists of frames that it joins as document 01 does: without
 //! overlap and without gaps. Where the two part is a list of its own (join/parting.rs).
 
+mod assembler;
 mod captures;
-mod lists;
+pub(crate) mod law;
+pub(crate) mod lists;
 mod parting;
 mod question;
 mod sample;

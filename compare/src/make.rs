@@ -5,6 +5,7 @@ mod question;
 mod sample;
 mod timing;
 
+pub(crate) use question::{least, made_by_rust, refusal};
 pub(crate) use sample::sample;
 pub(crate) use timing::time;
 

@@ -22,6 +22,13 @@ impl Random {
         ((self.next() as u128 * end as u128) >> 64) as usize
     }
 
+    /// A number below `end`, which is halved fewer than `times` times before, so that low ones are more common. `end` must
+    /// stay above 0.
+    pub(crate) fn low(&mut self, end: usize, times: usize) -> usize {
+        let halved = end >> self.below(times);
+        self.below(halved)
+    }
+
     /// A number of `bits` bits, 1 to 64, the highest of them 1.
     pub(crate) fn of_bits(&mut self, bits: usize) -> u64 {
         (self.next() | 1 << 63) >> (64 - bits)
@@ -35,6 +42,13 @@ impl Random {
 
     pub(crate) fn bytes(&mut self, length: usize) -> Vec<u8> {
         (0..length).map(|_| (self.next() >> 56) as u8).collect()
+    }
+
+    /// The same, other bytes, eight from each number: for long buffers.
+    pub(crate) fn fill(&mut self, bytes: &mut [u8]) {
+        for eight in bytes.chunks_mut(8) {
+            eight.copy_from_slice(&self.next().to_le_bytes()[..eight.len()]);
+        }
     }
 
     pub(crate) fn shuffle<T>(&mut self, items: &mut [T]) {

@@ -9,7 +9,8 @@ pub(crate) mod chance;
 pub(crate) mod counts;
 pub(crate) mod damage;
 pub(crate) mod law;
-mod lengths;
+pub(crate) mod layout;
+pub(crate) mod lengths;
 mod many;
 mod parting;
 mod question;
@@ -18,6 +19,7 @@ mod sample;
 mod seen;
 mod text;
 mod timing;
+mod worst;
 
 pub(crate) use sample::sample;
 pub(crate) use timing::time;

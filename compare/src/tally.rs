@@ -34,6 +34,15 @@ impl Tally {
         self.judge(question, ["to be", who], [known, given]);
     }
 
+    /// Counts one question whose answers were seen to be equal, so that no text of them need be built.
+    pub(crate) fn count_equal(&mut self) {
+        self.compared += 1;
+    }
+
+    pub(crate) fn differing(&self) -> u64 {
+        self.differing
+    }
+
     fn judge<A: PartialEq + Display>(
         &mut self,
         question: &impl Display,

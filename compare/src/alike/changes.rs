@@ -8,13 +8,13 @@ use super::pieces::{Piece, Pieces};
 use crate::random::Random;
 use crate::read::chance::READ;
 
-pub(super) use ids::with_reserved_ids;
+pub(crate) use ids::with_reserved_ids;
 
 /// Changes one thing of a hello. `None` where the hello has no such thing, or where nothing would change.
-type Change = fn(&mut Pieces, &mut Random) -> Option<()>;
+pub(crate) type Change = fn(&mut Pieces, &mut Random) -> Option<()>;
 
 /// Each change, and whether the hello stays alike.
-pub(super) const CHANGES: [(bool, Change); 28] = [
+pub(crate) const CHANGES: [(bool, Change); 28] = [
     (true, nothing),
     (true, unread_field),
     (true, unread_body),

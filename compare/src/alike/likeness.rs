@@ -4,9 +4,17 @@ use crate::noise::quic::fingerprint::parse_clienthello;
 use crate::read::law;
 use crate::read::report::Name;
 
+/// "yes exactly when both are accepted and agree"
+pub(crate) fn alike(a: &[u8], b: &[u8]) -> bool {
+    match (Likeness::of(a), Likeness::of(b)) {
+        (Some(a), Some(b)) => a == b,
+        _ => false,
+    }
+}
+
 /// Two accepted hellos are alike exactly when these are equal.
 #[derive(PartialEq)]
-pub(super) struct Likeness {
+struct Likeness {
     session_id_length: usize,
     name: Option<Vec<u8>>,
     /// "in order, in suites, groups, key-share groups, signature algorithms, versions"
@@ -20,7 +28,7 @@ pub(super) struct Likeness {
 impl Likeness {
     /// `None` where document 01 refuses the hello, by the driver's own reader. All else is what the original reads, but for
     /// names: it gives text, and their bytes are those of the driver's own reader, whose report must be the original's.
-    pub(super) fn of(hello: &[u8]) -> Option<Self> {
+    fn of(hello: &[u8]) -> Option<Self> {
         let report = law::read(hello).ok()?;
         let read = parse_clienthello(hello);
         assert_eq!(report.fingerprint(), read, "two readers, two reports");

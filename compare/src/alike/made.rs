@@ -8,7 +8,7 @@ const PROFILES: u64 = 3;
 const LONGEST: usize = 255;
 
 /// Two hellos, each with a connection id and a tape of its own, and whether profile and name are the same.
-pub(super) fn pair(random: &mut Random) -> ([Vec<u8>; 2], bool) {
+pub(crate) fn pair(random: &mut Random) -> ([Vec<u8>; 2], bool) {
     let profile = random.below(PROFILES as usize) as u64;
     let length = 1 + random.below(LONGEST);
     let name = make::any_name(length, random);

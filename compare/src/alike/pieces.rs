@@ -4,25 +4,25 @@ use crate::noise::quic::varint;
 use crate::read::build::{big_endian, block, sized, Extension, Parts};
 
 /// The entries of a list, each with what it has of lengths and values.
-pub(super) type Entries = Vec<Vec<u8>>;
+pub(crate) type Entries = Vec<Vec<u8>>;
 
 #[derive(Clone)]
-pub(super) struct Pieces {
+pub(crate) struct Pieces {
     /// All but suites and block.
-    pub(super) head: Parts,
-    pub(super) suites: Entries,
-    pub(super) extensions: Vec<Piece>,
+    pub(crate) head: Parts,
+    pub(crate) suites: Entries,
+    pub(crate) extensions: Vec<Piece>,
 }
 
 /// An extension. A body that is not read is one entry.
 #[derive(Clone)]
-pub(super) struct Piece {
-    pub(super) kind: u16,
-    pub(super) entries: Entries,
+pub(crate) struct Piece {
+    pub(crate) kind: u16,
+    pub(crate) entries: Entries,
 }
 
 impl Pieces {
-    pub(super) fn of(hello: &[u8]) -> Self {
+    pub(crate) fn of(hello: &[u8]) -> Self {
         let head = Parts::of(hello);
         Pieces {
             suites: head.suites.chunks(2).map(<[u8]>::to_vec).collect(),
@@ -31,7 +31,7 @@ impl Pieces {
         }
     }
 
-    pub(super) fn hello(&self) -> Vec<u8> {
+    pub(crate) fn hello(&self) -> Vec<u8> {
         let extensions: Vec<_> = self.extensions.iter().map(Piece::extension).collect();
         let parts = Parts {
             suites: self.suites.concat(),
@@ -42,7 +42,7 @@ impl Pieces {
     }
 
     /// The entries of an extension, where the hello has it.
-    pub(super) fn entries(&mut self, kind: u16) -> Option<&mut Entries> {
+    pub(crate) fn entries(&mut self, kind: u16) -> Option<&mut Entries> {
         let mut extensions = self.extensions.iter_mut();
         let piece = extensions.find(|piece| piece.kind == kind)?;
         Some(&mut piece.entries)

@@ -1,6 +1,6 @@
 //! Two hellos, and whether they are alike.
 
-use super::likeness::Likeness;
+use super::likeness::alike;
 use crate::ours;
 use crate::script::Bytes;
 use crate::sides::Ask;
@@ -28,16 +28,16 @@ pub(super) struct Verdict(pub(super) bool);
 impl Ask for Question {
     type Answer = Verdict;
 
-    /// "yes exactly when both are accepted and agree"
     fn by_rust(&self) -> Verdict {
-        match (Likeness::of(&self.a), Likeness::of(&self.b)) {
-            (Some(a), Some(b)) => Verdict(a == b),
-            _ => Verdict(false),
-        }
+        Verdict(alike(&self.a, &self.b))
     }
 
     fn by_ours(&self) -> Verdict {
-        Verdict(ours::alike(&self.a, &self.b))
+        match ours::alike(&self.a, &self.b) {
+            0 => Verdict(false),
+            1 => Verdict(true),
+            number => panic!("for 0 or 1: {number}"),
+        }
     }
 }
 

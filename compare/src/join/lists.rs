@@ -18,6 +18,13 @@ pub(crate) fn crypto(offset: usize, data: &[u8]) -> Vec<u8> {
     frame(&shortest(offset), &shortest(data.len()), data)
 }
 
+/// The same, each number in any width that holds it.
+pub(crate) fn any_frame(offset: usize, data: &[u8], random: &mut Random) -> Vec<u8> {
+    let offset = any_width(offset, random);
+    let length = any_width(data.len(), random);
+    frame(&offset, &length, data)
+}
+
 fn frame(offset: &[u8], length: &[u8], data: &[u8]) -> Vec<u8> {
     [&[CRYPTO], offset, length, data].concat()
 }
@@ -51,13 +58,23 @@ fn cuts(length: usize, random: &mut Random) -> Vec<usize> {
 
 /// The stream in frames without overlap, in random order, numbers in any width, with PADDING and PING between.
 pub(super) fn shuffled(stream: &[u8], random: &mut Random) -> Vec<u8> {
+    shuffled_frames(stream, random).concat()
+}
+
+/// The same, each frame apart, and each run of PADDING or PING.
+pub(crate) fn shuffled_frames(stream: &[u8], random: &mut Random) -> Vec<Vec<u8>> {
     let cuts = cuts(stream.len(), random);
     let parts = cuts.windows(2).map(|ends| (ends[0], ends[1])).collect();
     mixed(stream, parts, random)
 }
 
-/// The same with overlap: frames reach back before their cut, and some are sent twice.
+/// The stream with overlap: frames reach back before their cut, and some are sent twice.
 pub(super) fn covering(stream: &[u8], random: &mut Random) -> Vec<u8> {
+    covering_frames(stream, random).concat()
+}
+
+/// The same, each frame apart, and each run of PADDING or PING.
+pub(crate) fn covering_frames(stream: &[u8], random: &mut Random) -> Vec<Vec<u8>> {
     let mut parts = Vec::new();
     for ends in cuts(stream.len(), random).windows(2) {
         let back = random.below(1 + ends[0].min(30));
@@ -69,17 +86,15 @@ pub(super) fn covering(stream: &[u8], random: &mut Random) -> Vec<u8> {
     mixed(stream, parts, random)
 }
 
-fn mixed(stream: &[u8], parts: Vec<(usize, usize)>, random: &mut Random) -> Vec<u8> {
+fn mixed(stream: &[u8], parts: Vec<(usize, usize)>, random: &mut Random) -> Vec<Vec<u8>> {
     let mut frames: Vec<Vec<u8>> = Vec::new();
     for (start, end) in parts {
-        let offset = any_width(start, random);
-        let length = any_width(end - start, random);
-        frames.push(frame(&offset, &length, &stream[start..end]));
+        frames.push(any_frame(start, &stream[start..end], random));
         if random.below(3) == 0 {
             let kind = [PADDING, PING][random.below(2)];
             frames.push(vec![kind; random.below(5)]);
         }
     }
     random.shuffle(&mut frames);
-    frames.concat()
+    frames
 }

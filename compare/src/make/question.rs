@@ -66,19 +66,14 @@ pub(super) struct Question {
 impl Question {
     /// With the least tape and the least output.
     pub(super) fn new(profile: u64, name: &[u8], scid: &[u8], fill: Fill) -> Self {
-        let Row {
-            length,
-            sources,
-            tape,
-            ..
-        } = row(profile).unwrap_or(&TABLE[0]);
+        let (tape, room) = least(profile, name, scid);
         Question {
             profile,
             name: name.to_vec(),
             scid: scid.to_vec(),
             fill,
-            tape: *tape,
-            room: length + name.len() + sources * scid.len(),
+            tape,
+            room,
         }
     }
 
@@ -91,36 +86,61 @@ impl Question {
 
     /// The original's hello and the count drawn. Nothing may be wrong with the question.
     pub(super) fn made_by_rust(&self) -> (Vec<u8>, usize) {
-        let bytes = self.tape_bytes();
-        let mut tape = Tape::new(&bytes);
-        let profile = Profile::for_browser(TABLE[self.profile as usize].browser);
-        let name = std::str::from_utf8(&self.name).expect("bytes 33 to 126");
-        let hello = generate_client_hello(&profile, name, &self.scid, &mut tape);
-        (hello, tape.drawn())
+        made_by_rust(self.profile, &self.name, &self.scid, &self.tape_bytes())
     }
 
     fn output(&self) -> Vec<u8> {
         vec![UNTOUCHED; self.room]
     }
 
-    /// The first of questions 4 to 9 that is answered "no".
     fn refusal(&self) -> Option<u64> {
-        let Some(row) = row(self.profile) else {
-            return Some(4);
-        };
-        let (n, s) = (self.name.len(), self.scid.len());
-        let questions = [
-            ((1..=255).contains(&n), 5),
-            (self.name.iter().all(|byte| (33..=126).contains(byte)), 6),
-            (s <= 20, 7),
-            (row.tape <= self.tape, 8),
-            (row.length + n + row.sources * s <= self.room, 9),
-        ];
-        questions
-            .iter()
-            .find(|(yes, _)| !yes)
-            .map(|(_, number)| *number)
+        refusal(self.profile, &self.name, &self.scid, self.tape, self.room)
     }
+}
+
+/// The original's hello of what nothing is wrong with, and the count drawn.
+pub(crate) fn made_by_rust(
+    profile: u64,
+    name: &[u8],
+    scid: &[u8],
+    tape: &[u8],
+) -> (Vec<u8>, usize) {
+    let mut tape = Tape::new(tape);
+    let profile = Profile::for_browser(TABLE[profile as usize].browser);
+    let name = std::str::from_utf8(name).expect("bytes 33 to 126");
+    let hello = generate_client_hello(&profile, name, scid, &mut tape);
+    (hello, tape.drawn())
+}
+
+/// The first of questions 4 to 9 that is answered "no". Tape and output are here by their lengths.
+pub(crate) fn refusal(
+    profile: u64,
+    name: &[u8],
+    scid: &[u8],
+    tape: usize,
+    room: usize,
+) -> Option<u64> {
+    let Some(row) = row(profile) else {
+        return Some(4);
+    };
+    let (n, s) = (name.len(), scid.len());
+    let questions = [
+        ((1..=255).contains(&n), 5),
+        (name.iter().all(|byte| (33..=126).contains(byte)), 6),
+        (s <= 20, 7),
+        (row.tape <= tape, 8),
+        (row.length + n + row.sources * s <= room, 9),
+    ];
+    questions
+        .iter()
+        .find(|(yes, _)| !yes)
+        .map(|(_, number)| *number)
+}
+
+/// The least tape and the least output that nothing is wrong with, for a profile, or for the first where it is none.
+pub(crate) fn least(profile: u64, name: &[u8], scid: &[u8]) -> (usize, usize) {
+    let row = row(profile).unwrap_or(&TABLE[0]);
+    (row.tape, row.length + name.len() + row.sources * scid.len())
 }
 
 /// Length and count drawn, or the refusal, and each byte of the output.

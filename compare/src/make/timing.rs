@@ -5,9 +5,10 @@ use crate::noise::quic::profiles::Profile;
 use crate::noise::quic::tls::generate_client_hello;
 use crate::ours;
 use crate::sides::Ask;
+use crate::table::{Aim, Table};
 use crate::tally::Tally;
 use crate::tape::Tape;
-use crate::timing::{in_turn, Timed};
+use crate::timing::in_turn;
 use std::hint::black_box;
 
 const SEED: u64 = 0x6d61_6b65_7469_6d65;
@@ -15,10 +16,11 @@ const NAME: &str = "www.example.com";
 const SCID: [u8; 8] = [1, 2, 3, 4, 5, 6, 7, 8];
 /// Tapes, one after the other, so that no branch is learnt by heart.
 const TAPES: u64 = 64;
+const TITLES: [&str; 3] = ["Chrome", "Firefox", "curl"];
 /// The part of the Rust's time that a hello is to stay within.
-const AIM: f64 = 0.30;
+const AIM: f64 = 0.25;
 
-pub(crate) fn time(tally: &mut Tally) {
+pub(crate) fn time(tally: &mut Tally, table: &mut Table) {
     for (profile, row) in (0..).zip(&TABLE) {
         let question =
             |seed| Question::new(profile, NAME.as_bytes(), &SCID, Fill::Random(SEED + seed));
@@ -29,7 +31,7 @@ pub(crate) fn time(tally: &mut Tally) {
         let tapes: Vec<Vec<u8>> = questions.iter().map(Question::tape_bytes).collect();
         let built = Profile::for_browser(row.browser);
         let mut out = vec![0; questions[0].room];
-        let Timed { ours, rust, ratio } = in_turn(
+        let timed = in_turn(
             tapes.len(),
             || {
                 sum(&tapes, |tape| {
@@ -44,8 +46,7 @@ pub(crate) fn time(tally: &mut Tally) {
                 })
             },
         );
-        let met = if ratio <= AIM { "met" } else { "not met" };
-        println!("make, {:?}: ours {ours:.0} ns, Rust {rust:.0} ns, ratio {ratio:.2} (aim {AIM:.2}: {met})", row.browser);
+        table.add("make", TITLES[profile as usize], timed, Aim::Rust(AIM));
     }
 }
 

@@ -5,7 +5,7 @@ use crate::noise::quic::varint;
 
 const COUNTS: [u16; 11] = [1, 2, 15, 16, 17, 18, 63, 64, 65, 66, 127];
 /// A type that is not read; those after it are none of the read ones either.
-pub(super) const UNREAD: u16 = 0x5000;
+pub(crate) const UNREAD: u16 = 0x5000;
 
 /// Each count of suites, groups, algorithms, versions, names, key shares, ids and extensions. 127 versions are the most that
 /// the length can say.

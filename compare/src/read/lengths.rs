@@ -4,7 +4,7 @@ use super::build::big_endian;
 use crate::noise::quic::varint;
 
 /// A length: its place, how many bytes it has, and the bits of its first byte that are not its own.
-pub(super) struct Length {
+pub(crate) struct Length {
     at: usize,
     width: usize,
     other_bits: u32,
@@ -12,7 +12,7 @@ pub(super) struct Length {
 
 impl Length {
     /// The hello with this length one more, one less, and at its largest.
-    pub(super) fn changed(&self, hello: &[u8]) -> Vec<Vec<u8>> {
+    pub(crate) fn changed(&self, hello: &[u8]) -> Vec<Vec<u8>> {
         let largest = (1usize << (8 * self.width as u32 - self.other_bits)) - 1;
         let all = big_endian(&hello[self.at..self.at + self.width]);
         let length = all & largest;
@@ -29,7 +29,7 @@ impl Length {
     }
 }
 
-pub(super) fn lengths(hello: &[u8]) -> Vec<Length> {
+pub(crate) fn lengths(hello: &[u8]) -> Vec<Length> {
     let mut walk = Walk {
         hello,
         at: 1,

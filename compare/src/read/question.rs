@@ -1,6 +1,7 @@
 //! A hello to be read, and the two sides' answers.
 
 use super::law;
+use super::layout;
 use super::report::Numbers;
 use super::text::parse;
 use crate::noise::quic::fingerprint::{parse_clienthello, Fingerprint};
@@ -8,6 +9,9 @@ use crate::ours;
 use crate::script::Bytes;
 use crate::sides::Ask;
 use std::fmt::{Display, Formatter, Result};
+
+/// The length of a report's bytes as the call gives it.
+const LENGTH: u64 = layout::LENGTH as u64;
 
 #[derive(PartialEq, Eq, Hash)]
 pub(super) struct Question {
@@ -36,13 +40,26 @@ impl Question {
         format!("{}\n{}", self.report_by_ours(), self.set_by_ours())
     }
 
-    /// The number alone and the report are two calls, which must agree.
+    /// The number alone, the report's text and its bytes are three calls, which must agree.
     fn report_by_ours(&self) -> String {
-        match (ours::refusal(&self.hello), ours::report(&self.hello)) {
-            (Ok(0), Ok(text)) => text,
-            (Err(number), Err(same)) if number == same => format!("refused {number}"),
-            (alone, with) => format!("number alone {alone:?}, with the report {with:?}"),
+        let mut bytes = [0; layout::LENGTH];
+        let written = ours::report_bytes(&self.hello, &mut bytes);
+        let alone = ours::refusal(&self.hello);
+        match (alone, ours::report(&self.hello), written) {
+            (Ok(0), Ok(text), Ok(LENGTH)) if self.is_of(&bytes, &text) => text,
+            (Err(number), Err(same), Err(also)) if [same, also] == [number; 2] => {
+                format!("refused {number}")
+            }
+            (alone, text, written) => {
+                let bytes = Bytes(&bytes);
+                format!("number alone {alone:?}, text {text:?}, bytes {written:?} {bytes}")
+            }
         }
+    }
+
+    /// Whether a report's bytes are those of its text.
+    fn is_of(&self, bytes: &[u8], text: &str) -> bool {
+        parse(text, &self.hello).is_ok_and(|report| layout::bytes(&report) == bytes)
     }
 
     fn set_by_ours(&self) -> String {

@@ -1,20 +1,17 @@
-//! The reader against the clock: the number alone, and the whole report.
+//! The reader against the clock: the number alone, the report's bytes, and the report as our own code has it.
 
-use super::build::Parts;
-use super::counts::ids;
-use super::law;
-use super::question::{refused, Question};
+use super::question::Question;
 use super::report::Report;
+use super::{law, layout, worst};
 use crate::captures::Greeting;
-use crate::join::LIMIT;
 use crate::make;
 use crate::noise::quic::fingerprint::parse_clienthello;
 use crate::ours;
-use crate::random::Random;
 use crate::script::Bytes;
 use crate::sides::Ask;
+use crate::table::{Aim, Table};
 use crate::tally::Tally;
-use crate::timing::{least, Rounds};
+use crate::timing::Rounds;
 use std::hint::black_box;
 
 const SEED: u64 = 0x7265_6164_7469_6d65;
@@ -22,76 +19,74 @@ const NAME: &str = "www.example.com";
 const SCID: [u8; 8] = [1, 2, 3, 4, 5, 6, 7, 8];
 /// Hellos of each profile, one after the other, so that no branch is learnt by heart.
 const TAPES: u64 = 64;
-const CAPTURES: [&str; 2] = ["quic-chromium156", "quic-firefox153"];
-/// The parts of the Rust's time that the number alone and the whole report are to stay within, and the parts that they would
-/// best stay within.
-const NUMBER: [f64; 2] = [0.45, 0.30];
-const REPORT: [f64; 2] = [0.60, 0.40];
+/// What the captures of QUIC are called.
+const QUIC: &str = "quic-";
+/// The parts of the Rust's time that the number alone and a report are to stay within, and how many times the Rust's time the
+/// worst input may take.
+const NUMBER: f64 = 0.30;
+const REPORT: f64 = 0.40;
+const WORST: f64 = 10.0;
 /// The place of each list that is picked, and how many places may be.
 const PLACE: usize = 1;
 const PLACES: usize = 16;
-/// One call on the worst input takes so long that a few are enough.
-const CALLS: usize = 5;
 
-pub(crate) fn time(tally: &mut Tally, greetings: &[Greeting]) {
+pub(crate) fn time(tally: &mut Tally, table: &mut Table, greetings: &[Greeting]) {
     for (profile, title) in (0..).zip(["Chrome", "Firefox", "curl"]) {
         let hello = |tape| make::hello(profile, NAME, &SCID, SEED + tape);
         let hellos: Vec<Vec<u8>> = (0..TAPES).map(hello).collect();
-        time_read(tally, title, &hellos);
+        time_read(tally, table, title, &hellos);
     }
-    for greeting in greetings {
-        if CAPTURES.contains(&&greeting.name[..]) {
-            time_read(tally, &greeting.name, &[greeting.hello.clone()]);
+    for Greeting { name, hello, .. } in greetings {
+        if name.starts_with(QUIC) && law::read(hello).is_ok() {
+            time_read(tally, table, name, &[hello.clone()]);
         }
     }
-    time_worst(tally);
+    for (title, hello) in worst::hellos() {
+        time_worst(tally, table, &title, &hello);
+    }
 }
 
 /// Hellos that both sides read.
-fn time_read(tally: &mut Tally, title: &str, hellos: &[Vec<u8>]) {
+fn time_read(tally: &mut Tally, table: &mut Table, title: &str, hellos: &[Vec<u8>]) {
     for hello in hellos {
         let question = Question::new(hello);
         tally.count(&question, &question.by_rust(), &question.by_ours());
         check_picked(tally, hello);
     }
     let rounds = run(hellos);
-    println!(
-        "read, {title}: number {}; report {}; Rust {:.0} ns",
-        shown(&rounds, 0, NUMBER),
-        shown(&rounds, 1, REPORT),
-        rounds.time(2)
-    );
+    for (call, way, aim) in [
+        ("read", 0, NUMBER),
+        ("report", 1, REPORT),
+        ("report, as a struct", 2, REPORT),
+    ] {
+        table.add(call, title, rounds.timed(way, 3), Aim::Rust(aim));
+    }
 }
 
-/// The number alone, the whole report, and the Rust.
-fn run(hellos: &[Vec<u8>]) -> Rounds<3> {
+/// The number alone, the report's bytes, the report as a struct, and the Rust.
+fn run(hellos: &[Vec<u8>]) -> Rounds<4> {
+    let mut out = [0; layout::LENGTH];
     let number = |hello: &[u8]| ours::refusal(hello).unwrap_or_else(|number| number);
+    let bytes = |hello: &[u8]| ours::report_bytes(hello, black_box(&mut out)).unwrap_or(0);
     let report = |hello: &[u8]| ours::picked(hello, black_box(PLACE));
     let rust = |hello: &[u8]| black_box(parse_clienthello(hello)).extensions.len() as u64;
+    let (mut number, mut bytes) = (total(hellos, number), total(hellos, bytes));
+    let (mut report, mut rust) = (total(hellos, report), total(hellos, rust));
     Rounds::run(
         hellos.len(),
-        [
-            &mut || sum(hellos, number),
-            &mut || sum(hellos, report),
-            &mut || sum(hellos, rust),
-        ],
+        [&mut number, &mut bytes, &mut report, &mut rust],
     )
 }
 
-fn sum(hellos: &[Vec<u8>], read: impl Fn(&[u8]) -> u64) -> u64 {
-    let add = |sum: u64, hello: &Vec<u8>| sum.wrapping_add(read(black_box(hello)));
-    hellos.iter().fold(0, add)
-}
-
-fn shown(rounds: &Rounds<3>, way: usize, aims: [f64; 2]) -> String {
-    let (time, ratio) = (rounds.time(way), rounds.ratio(way, 2));
-    let met = |aim: f64| if ratio <= aim { "met" } else { "not met" };
-    let [aim, best] = aims;
-    format!(
-        "{time:.0} ns, ratio {ratio:.2} (aim {aim:.2}: {}; {best:.2}: {})",
-        met(aim),
-        met(best)
-    )
+/// Reads all hellos and adds up what comes of them.
+fn total<'a>(
+    hellos: &'a [Vec<u8>],
+    mut read: impl FnMut(&[u8]) -> u64 + 'a,
+) -> impl FnMut() -> u64 + 'a {
+    move || {
+        let add = |sum: u64, hello: &Vec<u8>| sum.wrapping_add(read(black_box(hello)));
+        hellos.iter().fold(0, add)
+    }
 }
 
 /// What is timed must be right: each place of our report, picked, is that of document 01's.
@@ -123,25 +118,17 @@ fn picked(report: &Report, place: usize) -> u64 {
         .wrapping_add(id.unwrap_or(0))
 }
 
-/// As many different parameter ids as 16,384 bytes hold, in random order: all are compared before they are too many.
-fn time_worst(tally: &mut Tally) {
-    let room = LIMIT - Parts::plain(&ids([]).bytes()).hello().len();
-    // an id below 64 has one byte, and one below 16,384 two; each has a length of one byte
-    let count = 64 + (room - 2 * 64) / 3;
-    let mut list: Vec<u64> = (0..count as u64).collect();
-    Random::new(SEED).shuffle(&mut list);
-    let hello = Parts::plain(&ids(list).bytes()).hello();
-    let question = Question::new(&hello);
-    tally.expect(&question, "ours", &refused(23), &question.texts_by_ours());
-    let ours = least(CALLS, || ours::refusal(black_box(&hello)).unwrap_or(0));
-    let rust = least(CALLS, || {
-        black_box(parse_clienthello(black_box(&hello)))
-            .extensions
-            .len() as u64
-    });
-    println!(
-        "read, {} bytes with {count} ids (23): ours {ours:.0} ns, Rust {rust:.0} ns, ratio {:.0}, the least of {CALLS} calls each",
-        hello.len(),
-        ours / rust
-    );
+/// A hello that ours may refuse. Where it does, no report is built, so the number alone is timed.
+fn time_worst(tally: &mut Tally, table: &mut Table, title: &str, hello: &[u8]) {
+    let question = Question::new(hello);
+    let known = question.texts_by_law();
+    tally.expect(&question, "ours", &known, &question.texts_by_ours());
+    let refusal = law::read(hello).err();
+    let rounds = run(&[hello.to_vec()]);
+    let answer = refusal.map_or("accepted".to_string(), |number| number.to_string());
+    let title = format!("{title}, {} bytes ({answer})", hello.len());
+    table.add("read", &title, rounds.timed(0, 3), Aim::Rust(WORST));
+    if refusal.is_none() {
+        table.add("report", &title, rounds.timed(1, 3), Aim::Rust(WORST));
+    }
 }

@@ -5,6 +5,7 @@ use crate::noise::quic::varint;
 use crate::ours;
 use crate::random::Random;
 use crate::sides::Ask;
+use crate::table::{Aim, Table};
 use crate::tally::Tally;
 use crate::timing::{in_turn, Timed};
 use std::hint::black_box;
@@ -12,27 +13,25 @@ use std::hint::black_box;
 const SEED: u64 = 0x7469_6d69_6e67_0001;
 const COUNT: usize = 1024;
 /// The part of the Rust's time that a run of reads is to stay within.
-const AIM: f64 = 0.70;
+const AIM: f64 = 0.55;
 /// The bit lengths, from and to, of the values that have 1, 2, 4 and 8 bytes as varints.
 const BITS: [(usize, usize); 4] = [(1, 6), (7, 14), (15, 30), (31, 62)];
 
-pub(crate) fn time(tally: &mut Tally) {
+pub(crate) fn time(tally: &mut Tally, table: &mut Table) {
     let (values, varints) = values_and_varints();
     let run = varints.concat();
     let question = Question::Sum(run.clone());
     tally.count(&question, &question.by_rust(), &question.by_ours());
 
-    let Timed { ours, rust, ratio } = time_run(&run);
-    let met = if ratio <= AIM { "met" } else { "not met" };
-    println!("varint read, {COUNT} in a row: ours {ours:.0} ns, Rust {rust:.0} ns, ratio {ratio:.2} (aim {AIM:.2}: {met})");
-    print_call("read", time_read(&varints));
-    print_call("write", time_write(&values));
-    print_call("size", time_size(&values));
-}
-
-fn print_call(call: &str, timed: Timed) {
-    let Timed { ours, rust, ratio } = timed;
-    println!("varint {call}, one call: ours {ours:.1} ns, Rust {rust:.1} ns, ratio {ratio:.2}");
+    let title = format!("{COUNT} in a row");
+    table.add("varint read", &title, time_run(&run), Aim::Rust(AIM));
+    for (call, timed) in [
+        ("varint read", time_read(&varints)),
+        ("varint write", time_write(&values)),
+        ("varint size", time_size(&values)),
+    ] {
+        table.add(call, "one call", timed, Aim::None);
+    }
 }
 
 /// Random values, each width as likely, and the varint of each. One in eight of those that can be is a width longer than

@@ -1,6 +1,6 @@
 -- The answers of the reader's calls as single numbers. Assumes nothing.
 use Prim.Native.Nat.{ℕ, _+_, _^_, _≤_, _<_}
-use mathlib.Core.Path.{_≡_, refl, ap}
+use mathlib.Core.Path.{_≡_, ap}
 use mathlib.Core.List.{List}
 use native.Mathlib.Omega.{arith}
 use lib.ListN.{getD}
@@ -8,32 +8,13 @@ use borrow.Author.Tests.{le-leb, lt-leb}
 use Rattle.wire.specs.Answer.{Answer, result, refused}
 use Rattle.fingerprint_lists.specs.Arrays.{extType, group, span}
 use Rattle.fingerprint.specs.ClientHello.{ClientHello}
-use Rattle.fingerprint.specs.Report.{numberOf}
 use Rattle.fingerprint.specs.declared.Fingerprint.{Fingerprint}
 use Rattle.fingerprint.proofs.Accepted.{Numbered}
 use Rattle.answers.specs.Said.{plain, plainly, saidCount, Says}
 use Rattle.answers.specs.Answers.{reportAnswer}
 use Rattle.answers.specs.declared.Said.{Said}
 use Rattle.answers.specs.declared.Said.the-variants as said
-use Rattle.compare_c.specs.Reading.{codedRefusal, ReportCoded, TextCoded, added, pickedOf}
-
--- ---- `compare_refusal`
-
-module _ (n : ℕ) where
-  pub refusal-bound : (a : Answer ClientHello) → Numbered a → n ≡ numberOf a → n ≤ 23
-  unfolding numberOf
-  refusal-bound (result v) f e = omega arith
-  refusal-bound (refused k) f e = omega (arith, f .1)
-
-  pub none-refused : (a : Answer ClientHello) → Numbered a → n ≡ numberOf a → n ≡ 0 → 0 ≡ codedRefusal a
-  unfolding numberOf
-  none-refused (result v) f e z = refl
-  none-refused (refused k) f e z = absurd (omega (arith, f .0))
-
-  pub one-refused : (a : Answer ClientHello) → n ≡ numberOf a → 1 ≤ n → 2 ^ 32 + n ≡ codedRefusal a
-  unfolding numberOf
-  one-refused (result v) e h = absurd (omega arith)
-  one-refused (refused k) e h = rw e
+use Rattle.compare_c.specs.Reading.{ReportCoded, TextCoded, added, pickedOf}
 
 -- ---- `compare_report` and `compare_set`
 

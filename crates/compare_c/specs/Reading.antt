@@ -13,11 +13,6 @@ use Rattle.fingerprint.specs.ClientHello.{ClientHello}
 use Rattle.fingerprint.specs.declared.Fingerprint.{Fingerprint}
 use Rattle.answers.specs.Answers.{reportAnswer}
 
--- 0, or 2^32 plus the number
-abbrev pub codedRefusal : Answer ClientHello → ℕ
-codedRefusal (result v) = 0
-codedRefusal (refused n) = 2 ^ 32 + n
-
 -- the length of a text that was written, or 2^32 plus the number
 abbrev pub codedLength : Answer ClientHello → ℕ → ℕ
 codedLength (result v) n = n

@@ -1,21 +1,18 @@
-// The calls for compare/, which holds them against the Rust: numbers and byte slices, with C's calling convention.
+// The calls for compare/ that the C library (crustdelta_c) does not have, held against the Rust: numbers and byte slices, with C's calling
+// convention.
 ghost use mathlib.Core.Path.{_≡_};
-ghost use mathlib.Core.Bool.{cond};
-ghost use Prim.Native.Nat.{_^_};
 ghost use Rattle.wire.specs.Answer.{coded};
 ghost use Rattle.varint.specs.Varint.{sizeOf, readOf};
 ghost use Rattle.records.specs.Records.{recordAt};
 ghost use Rattle.fingerprint.specs.Reader.{read};
 ghost use Rattle.fingerprint.specs.Calls.{extensionSet};
 ghost use Rattle.fingerprint.specs.Report.{parsedOf};
-ghost use Rattle.alike.specs.Alike as definition;
 ghost use Rattle.reports.specs.Lines.{setText};
 ghost use Rattle.compare_c.specs.Sums.{codedValue, codedWidth, sumOf, PutCoded};
-ghost use Rattle.compare_c.specs.Calls.{lengthOf, drawnOf, codedNext, JoinCoded, CutCoded, MakeCoded, PartCoded};
-ghost use Rattle.compare_c.specs.Reading.{codedRefusal, added, pickedOf, ReportCoded, TextCoded};
+ghost use Rattle.crustdelta_c.specs.Calls.{MakeCoded};
+ghost use Rattle.compare_c.specs.Calls.{drawnOf, codedNext, PartCoded};
+ghost use Rattle.compare_c.specs.Reading.{added, pickedOf, ReportCoded, TextCoded};
 use answers::Said;
-use frames::cutting::Cut;
-use frames::joining::Joined;
 use records::Next;
 use tls::Made;
 use varint::Got;
@@ -85,46 +82,7 @@ pub extern "C" fn compare_varint_sum(input: &[u8]) -> u64
     sum
 }
 
-// The end of the stream, or 2^32 plus the number.
-#[no_mangle]
-pub extern "C" fn compare_join(frames: &[u8], out: &mut [u8], marks: &mut [u8]) -> u64
-    ensures { λ r. ⌜ JoinCoded (now (frames .entry)) (now (out .entry)) (now (marks .entry)) r (now (out .exit)) (now (marks .exit)) ⌝ }
-{
-    match frames::joining::reassemble_crypto(frames, out, marks) {
-        Joined::End(end) => end as u64,
-        Joined::Refused(n) => 4294967296 + n,
-    }
-}
-
-// The length of all frames, or 2^32 plus the number.
-#[no_mangle]
-pub extern "C" fn compare_frames(c: u64, hello: &[u8], out: &mut [u8]) -> u64
-    ensures { λ r. ⌜ CutCoded c (now (hello .entry)) (now (out .entry)) r (now (out .exit)) ⌝ }
-{
-    match frames::cutting::write_frames(c, hello, out) {
-        Cut::Length(length) => length as u64,
-        Cut::Refused(n) => 4294967296 + n,
-    }
-}
-
-// The hello's length, or 2^32 plus the number.
-#[no_mangle]
-pub extern "C" fn compare_make(
-    browser: u64,
-    name: &[u8],
-    scid: &[u8],
-    tape: &[u8],
-    out: &mut [u8],
-) -> u64
-    ensures { λ r. ⌜ MakeCoded lengthOf browser (now (name .entry)) (now (scid .entry)) (now (tape .entry)) (now (out .entry)) r (now (out .exit)) ⌝ }
-{
-    match tls::making::generate_client_hello(browser, name, scid, tape, out) {
-        Made::Hello(hello) => hello.length as u64,
-        Made::Refused(n) => 4294967296 + n,
-    }
-}
-
-// The same call's count of bytes drawn, or 2^32 plus the number.
+// The count of bytes that the maker draws for a hello, or 2^32 plus the number.
 #[no_mangle]
 pub extern "C" fn compare_drawn(
     browser: u64,
@@ -165,15 +123,6 @@ pub extern "C" fn compare_record(blob: &[u8], place: usize, out: &mut [u8]) -> u
     wire::put_bytes(out, part) as u64
 }
 
-// 0 where the hello is accepted, else 2^32 plus the number. No report is built.
-#[no_mangle]
-pub extern "C" fn compare_refusal(hello: &[u8]) -> u64
-    ensures { λ r. ⌜ r ≡ codedRefusal (read (now (hello .entry))) ⌝ }
-{
-    let number = fingerprint::reading::refusal(hello);
-    if number == 0 { 0 } else { 4294967296 + number }
-}
-
 // The length of the report's text, as the command `report` answers it, or 2^32 plus the number.
 #[no_mangle]
 pub extern "C" fn compare_report(hello: &[u8], out: &mut [u8]) -> u64
@@ -198,14 +147,6 @@ pub extern "C" fn compare_set(hello: &[u8], out: &mut [u8]) -> u64
         Said::Refused(n, _) => n as u64,
         Said::Error(_) => 0,
     }
-}
-
-// 1 where the two hellos are alike, else 0.
-#[no_mangle]
-pub extern "C" fn compare_alike(a: &[u8], b: &[u8]) -> u64
-    ensures { λ r. ⌜ r ≡ cond (definition.alike (read (now (a .entry))) (read (now (b .entry)))) 1 0 ⌝ }
-{
-    if alike::alike(a, b) { 1 } else { 0 }
 }
 
 // A 16-bit number added to a sum, modulo 2^64.

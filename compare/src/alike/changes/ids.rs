@@ -16,7 +16,7 @@ const FEW: usize = 60;
 const SHORT: usize = 40;
 
 /// A hello to change something of. Half of those with parameters get one or two reserved ids, which chance alone seldom gives.
-pub(in crate::alike) fn with_reserved_ids(hello: &[u8], random: &mut Random) -> Pieces {
+pub(crate) fn with_reserved_ids(hello: &[u8], random: &mut Random) -> Pieces {
     let mut hello = Pieces::of(hello);
     if let Some(entries) = hello.entries(PARAMETERS) {
         if entries.len() <= FEW && random.below(2) == 0 {
