@@ -18,15 +18,7 @@ const IDS: (usize, usize) = (16, 856);
 pub(crate) fn bytes(report: &Report) -> [u8; LENGTH] {
     let mut out = [0; LENGTH];
     put(&mut out, SESSION_ID_LENGTH, report.session_id_length);
-    let lists = [
-        &report.cipher_suites,
-        &report.extensions,
-        &report.supported_groups,
-        &report.key_share_groups,
-        &report.signature_algorithms,
-        &report.supported_versions,
-    ];
-    for ((count, at), list) in LISTS.into_iter().zip(lists) {
+    for ((count, at), list) in LISTS.into_iter().zip(report.lists()) {
         put(&mut out, count, list.len());
         for (place, number) in list.iter().enumerate() {
             put(&mut out, at + 2 * place, usize::from(*number));

@@ -25,6 +25,18 @@ pub(crate) struct Report {
 }
 
 impl Report {
+    /// The lists of 16-bit numbers.
+    pub(crate) fn lists(&self) -> [&Vec<u16>; 6] {
+        [
+            &self.cipher_suites,
+            &self.extensions,
+            &self.supported_groups,
+            &self.key_share_groups,
+            &self.signature_algorithms,
+            &self.supported_versions,
+        ]
+    }
+
     /// The same as the original holds it: names as text, and nothing of where they stand.
     pub(crate) fn fingerprint(&self) -> Fingerprint {
         let text = |name: &Name| String::from_utf8_lossy(&name.bytes).into_owned();

@@ -101,15 +101,10 @@ fn check_picked(tally: &mut Tally, hello: &[u8]) {
 
 /// The sum of one place of each list, 0 past its count.
 fn picked(report: &Report, place: usize) -> u64 {
-    let lists = [
-        &report.cipher_suites,
-        &report.extensions,
-        &report.supported_groups,
-        &report.key_share_groups,
-        &report.signature_algorithms,
-        &report.supported_versions,
-    ];
-    let entries = lists.iter().filter_map(|list| list.get(place));
+    let entries = report
+        .lists()
+        .into_iter()
+        .filter_map(|list| list.get(place));
     let start = report.alpn.get(place).map_or(0, |name| name.start as u64);
     let id = report.transport_parameters.get(place).copied();
     entries
