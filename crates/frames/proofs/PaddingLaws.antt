@@ -17,10 +17,7 @@ use Rattle.frames.proofs.EachLaws.{each-at}
 use Rattle.frames.proofs.RunLaws.{Running, goes-on}
 use Rattle.frames.proofs.JoinLaws.{Laying}
 
--- none so far, and a block more
-pub no-padding : (bs : List ℕ) → Padding 0 bs
-no-padding bs = record { within = omega arith; zero = λ i h. absurd (omega arith) }
-
+-- a block more, and a byte more
 pub padding-more : (at n : ℕ) (bs : List ℕ) → Padding at bs → at + n ≤ length bs → zeros (take n (drop at bs)) ≡ true → Padding (at + n) bs
 unfolding zeros
 padding-more at n bs p h z = record { within = h; zero = λ i l. ⊎-elim (p .zero i) (λ k. later i k l) (lt-or-le i at) }

@@ -5,7 +5,7 @@ use native.Mathlib.Omega.{arith}
 use denote.Ref.{now}
 use lib.ListN.{length}
 use Rattle.frames.specs.Buffers.{Padding}
-use Rattle.frames.proofs.PaddingLaws.{no-padding, padding-more, padding-one}
+use Rattle.frames.proofs.PaddingLaws.{padding-more, padding-one}
 use borrow.Author.Needs.{needs}
 use Rattle.frames.proofs.joining.padding.Statement.{statement}
 use Rattle.frames.proofs.joining.padding.Tie as tie
