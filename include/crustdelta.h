@@ -3,7 +3,8 @@
  * and says whether two are alike.
  *
  * Every call takes any bytes, any numbers and buffers of any length; the library keeps nothing between calls, allocates nothing and may be
- * called from any number of threads. What a call does is proved: docs/PROVED.md names the definitions.
+ * called from any number of threads. It takes up to some 110 KB of stack, for a hello with more than 64 transport parameters; else a few.
+ * What a call does is proved: docs/PROVED.md names the definitions.
  *
  * A pointer whose length is 0 is not read, but must not be NULL. The buffers that a call writes to must not overlap each other or what it
  * reads.
