@@ -12,7 +12,7 @@ use Rattle.fingerprint_bodies.specs.Entries.{bind, mapped, taken, numberAt, vec
 use Rattle.fingerprint_bodies.specs.Body.{kind, encodeBody}
 use Rattle.fingerprint_bodies.specs.Forms.{wordsIn, evenWords, wordList, oneName, someNames, protocolNames, varintAt, oneParameter, transportParameters, bodyOf, idsNew, withinCounts}
 use Rattle.fingerprint_lists.specs.Arrays.{placed}
-use Rattle.fingerprint.specs.Reader.{oneExtension, askBody, extension, walk, allExtensions, afterSuites, afterSession, fields, readExtensions, readBody, read}
+use Rattle.fingerprint.specs.Reader.{oneExtension, askBody, extension, walk, allExtensions, afterSuites, afterSession, fields, readExtensions, readBody, readFields, read}
 use Rattle.fingerprint.specs.Report.{numbersIn, namesIn, gathered, blockPlace, firstOf, report}
 use Rattle.fingerprint.proofs.Samples.{helloWith, parametersOf}
 use Rattle.alike.specs.Alike.{alikeId, likeness, sameList, sameName, sameLists, agree, alike}
@@ -66,7 +66,7 @@ pub verdicts :
     map (λ p. alike (read (helloWith (p .one))) (read (helloWith (p .other)))) pairs
     ≡ true ∷ false ∷ false ∷ true ∷ true ∷ false ∷ false ∷ false ∷ false ∷ true ∷ false ∷ []
 unfolding
-    groupsOf protocolsOf emptyOf helloWith parametersOf vector digits number numberOn classAt readOf read readBody whole vectorAt numberAt taken bind
+    groupsOf protocolsOf emptyOf helloWith parametersOf vector digits number numberOn classAt readOf read readFields readBody whole vectorAt numberAt taken bind
     mapped fields atMost afterSession evenWords wordsIn afterSuites atLeast readExtensions allExtensions walk extension oneExtension askBody member any
     distinct kind bodyOf wordList oneName someNames protocolNames varintAt oneParameter transportParameters first entries allEntries idsNew withinCounts report
     blockPlace gathered numbersIn namesIn placed firstOf encodeBody likeness alikeId agree sameName sameLists sameList sameCounts equallyOften count
@@ -84,6 +84,6 @@ helloOffering suites =
 pub suites-compared :
     alike (read (helloOffering (0x13 ∷ 0x01 ∷ 0x13 ∷ 0x02 ∷ []))) (read (helloOffering (0x13 ∷ 0x02 ∷ 0x13 ∷ 0x01 ∷ []))) ≡ false
 unfolding
-    helloOffering vector digits number numberOn read readBody whole vectorAt numberAt taken bind mapped fields atMost afterSession evenWords wordsIn
+    helloOffering vector digits number numberOn read readFields readBody whole vectorAt numberAt taken bind mapped fields atMost afterSession evenWords wordsIn
     afterSuites atLeast readExtensions allExtensions walk report blockPlace gathered firstOf likeness agree sameName sameLists sameList alike
 suites-compared = refl

@@ -14,7 +14,7 @@ use Rattle.fingerprint_bodies.specs.Entries.{whole}
 use Rattle.fingerprint_bodies.specs.Body.{kind}
 use Rattle.fingerprint_bodies.specs.Forms.{bodyOf, idsNew, withinCounts}
 use Rattle.fingerprint.specs.ClientHello.{Extension, ClientHello, typeOf}
-use Rattle.fingerprint.specs.Reader.{inForm, Raw, oneExtension, askBody, extension, walk, allExtensions, Fields, fields, readExtensions, readBody, read}
+use Rattle.fingerprint.specs.Reader.{inForm, Raw, oneExtension, askBody, extension, walk, allExtensions, Fields, fields, readExtensions, readBody, readFields, read}
 use Rattle.fingerprint.specs.Report.{report, emptyReport, shown, parsedOf}
 use Rattle.fingerprint.proofs.WellFormed.{Encodes, accepted-exactly}
 
@@ -68,13 +68,17 @@ fields-numbered f =
 body-numbered : (bs : List ℕ) → Numbered (readBody bs)
 unfolding readBody
 body-numbered bs =
-    numbered-form (whole 3 bs) 18 _ (lit≤ tt, lit≤ tt) (λ body. numbered-form (fields body) 19 readExtensions (lit≤ tt, lit≤ tt) fields-numbered)
+    numbered-form (whole 3 bs) 18 _ (lit≤ tt, lit≤ tt) (λ body. numbered-form (fields body) 19 result (lit≤ tt, lit≤ tt) (λ f. tt))
+
+before-numbered : (h : List ℕ) → Numbered (readFields h)
+unfolding readFields
+before-numbered h =
+    numbered-ask (leb (length h) 16384) 16 _ (lit≤ tt, lit≤ tt)
+    (numbered-ask (leb 1 (length h) && eqb (getD h 0 0) 1) 17 _ (lit≤ tt, lit≤ tt) (body-numbered (drop 1 h)))
 
 pub read-numbered : (h : List ℕ) → Numbered (read h)
 unfolding read
-read-numbered h =
-    numbered-ask (leb (length h) 16384) 16 _ (lit≤ tt, lit≤ tt)
-    (numbered-ask (leb 1 (length h) && eqb (getD h 0 0) 1) 17 _ (lit≤ tt, lit≤ tt) (body-numbered (drop 1 h)))
+read-numbered h = numbered-then (readFields h) readExtensions (before-numbered h) fields-numbered
 
 -- ---- what is handed out
 

@@ -1,5 +1,5 @@
 -- The answers of the code that reads the head, from what it found. Assumes nothing.
-use Prim.Native.Nat.{ℕ, _+_, _-_, _*_, _%_, _≤_, _<_}
+use Prim.Native.Nat.{ℕ, _+_, _-_, _%_, _≤_, _<_}
 use lib.Dec.{lit≤}
 use mathlib.Core.Path.{_≡_, refl, sym, ap, _∙_}
 use mathlib.Core.List.{List, []}
@@ -7,26 +7,27 @@ use mathlib.Core.Option.{Option, none}
 use native.Mathlib.Omega.{arith}
 use borrow.Author.Tests.{le-leb, lt-leb}
 use lib.ListN.{length, take, drop, getD}
-use Rattle.wire.specs.Answer.{refused, IsNumber}
+use Rattle.wire.specs.Answer.{result, refused, IsNumber}
 use Rattle.wire.specs.Numbers.{number}
 use Rattle.fingerprint_bodies.specs.Forms.{wordsIn}
 use Rattle.fingerprint_bodies.proofs.FormLaws.{length-words-in}
 use Rattle.fingerprint_lists.specs.Arrays.{span}
-use Rattle.fingerprint.specs.Reader.{Fields, inForm, afterSuites, readExtensions, read}
-use Rattle.fingerprint.specs.Code.{HeadFound, BeforeSuites, BlockFound, BlockAs, EndAs}
+use Rattle.fingerprint_lists.specs.declared.Span.{Span}
+use Rattle.fingerprint.specs.Reader.{Fields, inForm, afterSuites, readFields, readExtensions, read}
+use Rattle.fingerprint.specs.Code.{FieldsFound, HeadFound, BeforeSuites, BlockFound, BlockAs, EndAs}
 use Rattle.fingerprint.specs.declared.head.Place.{Place}
 use Rattle.fingerprint.specs.declared.head.Place.the-variants as place
 use Rattle.fingerprint.proofs.HeadLaws.{suites-length, suites-there, compression-length, block-cut, block-there}
 
 -- the answer `Refused n`
 abbrev pub RefusedWith : ℕ → List ℕ → Type 0
-RefusedWith n h = (read h ≡ refused n) × IsNumber n
+RefusedWith n h = (readFields h ≡ refused n) × IsNumber n
 
-pub refused-with : (n : ℕ) (h : List ℕ) → IsNumber n → read h ≡ refused n → RefusedWith n h
+pub refused-with : (n : ℕ) (h : List ℕ) → IsNumber n → readFields h ≡ refused n → RefusedWith n h
 refused-with n h i e = (e, i)
 
 -- fields that are not in their form
-pub not-in-form : (h : List ℕ) (x : Option Fields) → read h ≡ inForm x 19 readExtensions → x ≡ none → RefusedWith 19 h
+pub not-in-form : (h : List ℕ) (x : Option Fields) → readFields h ≡ inForm x 19 result → x ≡ none → RefusedWith 19 h
 not-in-form h x is e = (is ∙ rw e, (lit≤ tt, lit≤ tt))
 
 -- what the block's place says, after compression of n bytes
@@ -55,10 +56,10 @@ module _
     abbrev part : List ℕ
     part = take n (drop (39 + session + 2) h)
 
-    on-suites : read h ≡ inForm (afterSuites (before .version) (before .random) (before .id) (wordsIn part) (drop (39 + session + 2 + n) h)) 19 readExtensions
+    on-suites : readFields h ≡ inForm (afterSuites (before .version) (before .random) (before .id) (wordsIn part) (drop (39 + session + 2 + n) h)) 19 result
     on-suites =
         before .is
-        ∙ ap (λ (x : Option Fields). inForm x 19 readExtensions)
+        ∙ ap (λ (x : Option Fields). inForm x 19 result)
         (suites-there (before .version) (before .random) (before .id) h (39 + session) (before .inside) room n is some-there even within)
 
     pub block-not-there : ((version random id suites : List ℕ) → afterSuites version random id suites (drop (39 + session + 2 + n) h) ≡ none) → RefusedWith 19 h
@@ -77,33 +78,53 @@ module _
         block = drop b h;
       }
 
-      on-extensions : read h ≡ readExtensions found-fields
-      on-extensions =
-          on-suites
-          ∙ ap (λ (x : Option Fields). inForm x 19 readExtensions) (block .is (before .version) (before .random) (before .id) (wordsIn part))
-
       part-length : length part ≡ n
       part-length = suites-length (before .version) (before .random) (before .id) h (39 + session) (before .inside) room n is within
 
-      twice : n ≡ 2 * length (wordsIn part)
-      twice = sym part-length ∙ length-words-in part (rw part-length even)
-
-      pub many-suites : 128 < n → RefusedWith 23 h
-      unfolding readExtensions
-      many-suites k = (on-extensions ∙ rw (lt-leb (length (wordsIn part)) 64 (omega (arith, twice))), (lit≤ tt, lit≤ tt))
-
-      pub head-there : n ≤ 128 → HeadFound h session (span (39 + session + 2) n) b
-      unfolding readExtensions
-      head-there k =
+      pub fields-there : FieldsFound h session (span (39 + session + 2) n) b
+      fields-there =
           record {
             found = found-fields;
-            is = on-extensions ∙ rw (le-leb (length (wordsIn part)) 64 (omega (arith, twice)));
+            is =
+                on-suites
+                ∙ ap (λ (x : Option Fields). inForm x 19 result) (block .is (before .version) (before .random) (before .id) (wordsIn part));
+            block-is = refl;
             session-is = before .session-is;
             suites-are = refl;
-            suites-even = twice;
+            suites-even = sym part-length ∙ length-words-in part (rw part-length even);
             place = omega (arith, block .place);
             suites-inside = omega (arith, before .inside);
-            suites-few = k;
             inside = block .inside;
             short = before .short;
           }
+
+-- the reader goes on from the fields: more than 64 suites are refused
+module _ {h : List ℕ} {session : ℕ} {suites : Span} {block : ℕ} (fields : FieldsFound h session suites block) where
+  on-extensions : read h ≡ readExtensions (fields .found)
+  unfolding read
+  on-extensions = rw (fields .is)
+
+  pub many-suites : 128 < suites .length → (read h ≡ refused 23) × IsNumber 23
+  unfolding readExtensions
+  many-suites k = (on-extensions ∙ rw (lt-leb (length (fields .found .cipherSuites)) 64 (omega (arith, fields .suites-even))), (lit≤ tt, lit≤ tt))
+
+  pub head-there : suites .length ≤ 128 → HeadFound h session suites block
+  unfolding readExtensions
+  head-there k =
+      record {
+        found = fields .found;
+        is = on-extensions ∙ rw (le-leb (length (fields .found .cipherSuites)) 64 (omega (arith, fields .suites-even)), fields .block-is);
+        session-is = fields .session-is;
+        suites-are = fields .suites-are;
+        suites-even = fields .suites-even;
+        place = fields .place;
+        suites-inside = fields .suites-inside;
+        suites-few = k;
+        inside = fields .inside;
+        short = fields .short;
+      }
+
+-- a refusal of the fields is the reader's
+pub fields-refused : (h : List ℕ) (n : ℕ) → RefusedWith n h → (read h ≡ refused n) × IsNumber n
+unfolding read
+fields-refused h n (e, i) = (rw e, i)

@@ -8,14 +8,14 @@ use native.Mathlib.Omega.{arith}
 use borrow.Author.Tests.{le-leb, lt-leb, eq-eqb, ne-eqb}
 use lib.ListN.{length, take, drop, getD, length-drop}
 use lib.Seq.{drop-drop, getD-drop, length-take-le}
-use Rattle.wire.specs.Answer.{refused}
+use Rattle.wire.specs.Answer.{result, refused}
 use Rattle.wire.specs.Numbers.{numberOn, number}
 use Rattle.wire.proofs.ListLaws.{lt-or-le}
 use Rattle.fingerprint_bodies.specs.Entries.{entry, bind, vectorAt, whole, atLeast, atMost}
 use Rattle.fingerprint_bodies.specs.Forms.{wordsIn, evenWords}
 use Rattle.fingerprint_bodies.proofs.PieceLaws.{taken-there, taken-cut, vector-short, vector-there, vector-cut, whole-there, whole-short, whole-other}
 use Rattle.varint.proofs.ByteLaws.{number-one}
-use Rattle.fingerprint.specs.Reader.{Fields, inForm, afterSuites, afterSession, fields, readExtensions, readBody, read}
+use Rattle.fingerprint.specs.Reader.{Fields, inForm, afterSuites, afterSession, fields, readBody, readFields}
 
 -- ---- The first four bytes
 
@@ -29,36 +29,36 @@ number-three (a ∷ b ∷ c ∷ []) h = absurd (omega arith)
 number-three (a ∷ b ∷ c ∷ d ∷ r) h = omega arith
 
 module _ (h : List ℕ) where
-  pub read-long : 16384 < length h → read h ≡ refused 16
-  unfolding read
+  pub read-long : 16384 < length h → readFields h ≡ refused 16
+  unfolding readFields
   read-long k = rw (lt-leb (length h) 16384 k)
 
   module _ (short : length h ≤ 16384) where
-    pub read-empty : length h ≡ 0 → read h ≡ refused 17
-    unfolding read
+    pub read-empty : length h ≡ 0 → readFields h ≡ refused 17
+    unfolding readFields
     read-empty k = rw (le-leb (length h) 16384 short, lt-leb 1 (length h) (omega arith))
 
-    pub read-type : 1 ≤ length h → (getD h 0 0 ≡ 1 → ⊥) → read h ≡ refused 17
-    unfolding read
+    pub read-type : 1 ≤ length h → (getD h 0 0 ≡ 1 → ⊥) → readFields h ≡ refused 17
+    unfolding readFields
     read-type s k = rw (le-leb (length h) 16384 short, le-leb 1 (length h) s, ne-eqb (getD h 0 0) 1 k)
 
     module _ (there : 1 ≤ length h) (one : getD h 0 0 ≡ 1) where
-      read-body : read h ≡ readBody (drop 1 h)
-      unfolding read
+      read-body : readFields h ≡ readBody (drop 1 h)
+      unfolding readFields
       read-body = rw (le-leb (length h) 16384 short, le-leb 1 (length h) there, eq-eqb (getD h 0 0) 1 one)
 
-      pub read-few : length h < 4 → read h ≡ refused 18
+      pub read-few : length h < 4 → readFields h ≡ refused 18
       unfolding readBody
       read-few k = read-body ∙ rw (whole-short 3 (drop 1 h) (omega (arith, length-drop 1 h)))
 
       module _ (four : 4 ≤ length h) (n : ℕ) (is : number 256 (take 3 (drop 1 h)) ≡ n) where
-        pub read-other : (n ≡ length h - 4 → ⊥) → read h ≡ refused 18
+        pub read-other : (n ≡ length h - 4 → ⊥) → readFields h ≡ refused 18
         unfolding readBody
         read-other k =
             let other : number 256 (take 3 (drop 1 h)) ≡ length (drop 1 h) - 3 → ⊥ = λ e. k (omega (arith, is, e, length-drop 1 h)) in
             read-body ∙ rw (whole-other 3 (drop 1 h) (omega (arith, length-drop 1 h)) other)
 
-        pub read-fields : n ≡ length h - 4 → read h ≡ inForm (fields (drop 4 h)) 19 readExtensions
+        pub read-fields : n ≡ length h - 4 → readFields h ≡ inForm (fields (drop 4 h)) 19 result
         unfolding readBody
         read-fields e =
             let same : number 256 (take 3 (drop 1 h)) ≡ length (drop 1 h) - 3 = omega (arith, is, e, length-drop 1 h) in

@@ -13,7 +13,7 @@ use Rattle.fingerprint_bodies.specs.Entries.{bind, mapped, taken, numberAt, vec
 use Rattle.fingerprint_bodies.specs.Body.{kind, encodeBody}
 use Rattle.fingerprint_bodies.specs.Forms.{wordsIn, evenWords, wordList, oneEntry, serverName, oneShare, keyShares, varintAt, oneParameter, transportParameters, bodyOf, idsNew, withinCounts}
 use Rattle.fingerprint_lists.specs.Arrays.{part}
-use Rattle.fingerprint.specs.Reader.{oneExtension, askBody, extension, walk, allExtensions, afterSuites, afterSession, fields, readExtensions, readBody, read}
+use Rattle.fingerprint.specs.Reader.{oneExtension, askBody, extension, walk, allExtensions, afterSuites, afterSession, fields, readExtensions, readBody, readFields, read}
 use Rattle.fingerprint.specs.Report.{numbersIn, namesIn, gathered, blockPlace, firstOf, report, shown, parsedOf, numberOf}
 use Rattle.fingerprint.specs.Calls.{bytesOr, nameOr, insert, insertAll, rising, extensionSet}
 
@@ -61,7 +61,7 @@ blocks =
 
 pub numbers : map (λ block. numberOf (read (helloWith block))) blocks ≡ 20 ∷ 21 ∷ 20 ∷ 21 ∷ 21 ∷ 21 ∷ 21 ∷ 22 ∷ 22 ∷ 23 ∷ 0 ∷ []
 unfolding
-    helloWith idsBelow parametersOf vector digits number numberOn classAt readOf read readBody whole vectorAt numberAt taken bind mapped fields atMost
+    helloWith idsBelow parametersOf vector digits number numberOn classAt readOf read readFields readBody whole vectorAt numberAt taken bind mapped fields atMost
     afterSession evenWords wordsIn afterSuites atLeast readExtensions allExtensions walk extension oneExtension askBody member any distinct kind bodyOf
     wordList oneShare keyShares varintAt oneParameter transportParameters first entries allEntries idsNew withinCounts numberOf
 numbers = refl
@@ -89,7 +89,7 @@ pub reported : parsedOf (read (helloWith (grouped ++ named))) ≡ shown 0 (recor
   transportParamIds = [];
 })
 unfolding
-    helloWith vector digits number numberOn read readBody whole vectorAt numberAt taken bind mapped fields atMost afterSession evenWords wordsIn
+    helloWith vector digits number numberOn read readFields readBody whole vectorAt numberAt taken bind mapped fields atMost afterSession evenWords wordsIn
     afterSuites atLeast readExtensions allExtensions walk extension oneExtension askBody member any kind bodyOf wordList oneEntry serverName idsNew
     withinCounts parsedOf report blockPlace gathered numbersIn namesIn firstOf encodeBody words
 reported = refl
@@ -97,14 +97,14 @@ reported = refl
 -- the name; the default where the hello is refused after it: groups with no body
 pub name-given : nameOr (0x64 ∷ []) (read (helloWith named)) ≡ 0x61 ∷ []
 unfolding
-    helloWith vector digits number numberOn read readBody whole vectorAt numberAt taken bind mapped fields atMost afterSession evenWords wordsIn
+    helloWith vector digits number numberOn read readFields readBody whole vectorAt numberAt taken bind mapped fields atMost afterSession evenWords wordsIn
     afterSuites atLeast readExtensions allExtensions walk extension oneExtension askBody member any kind bodyOf oneEntry serverName idsNew withinCounts
     report blockPlace gathered namesIn firstOf encodeBody nameOr bytesOr
 name-given = refl
 
 pub name-default : nameOr (0x64 ∷ []) (read (helloWith (named ++ (0x00 ∷ 0x0a ∷ 0x00 ∷ 0x00 ∷ [])))) ≡ 0x64 ∷ []
 unfolding
-    helloWith vector digits number numberOn read readBody whole vectorAt numberAt taken bind mapped fields atMost afterSession evenWords wordsIn
+    helloWith vector digits number numberOn read readFields readBody whole vectorAt numberAt taken bind mapped fields atMost afterSession evenWords wordsIn
     afterSuites atLeast readExtensions allExtensions walk extension oneExtension askBody member any kind bodyOf wordList oneEntry serverName idsNew
     withinCounts nameOr
 name-default = refl
@@ -112,7 +112,7 @@ name-default = refl
 -- types in rising order, not in the order sent
 pub set-rises : extensionSet (read (helloWith (0xfe ∷ 0x0d ∷ 0x00 ∷ 0x00 ∷ 0x00 ∷ 0x17 ∷ 0x00 ∷ 0x00 ∷ []))) ≡ 0x0017 ∷ 0xfe0d ∷ []
 unfolding
-    helloWith vector digits number numberOn read readBody whole vectorAt numberAt taken bind fields atMost afterSession evenWords wordsIn afterSuites
+    helloWith vector digits number numberOn read readFields readBody whole vectorAt numberAt taken bind fields atMost afterSession evenWords wordsIn afterSuites
     atLeast readExtensions allExtensions walk extension oneExtension askBody member any kind bodyOf idsNew withinCounts report extensionSet rising
     insertAll insert
 set-rises = refl

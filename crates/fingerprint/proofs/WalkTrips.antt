@@ -162,7 +162,7 @@ unfolding walk
 walk-none zero done = refl
 walk-none (suc f) done = refl
 
-walk-turn : (f : ℕ) (done : List Extension) (bs : List ℕ) → 1 ≤ length bs → walk (suc f) done bs ≡ andThen (extension done bs) (λ e. walk f (done ++ (e .value ∷ [])) (e .rest))
+pub walk-turn : (f : ℕ) (done : List Extension) (bs : List ℕ) → 1 ≤ length bs → walk (suc f) done bs ≡ andThen (extension done bs) (λ e. walk f (done ++ (e .value ∷ [])) (e .rest))
 unfolding walk
 walk-turn f done [] h = absurd (omega arith)
 walk-turn f done (b ∷ bs) h = refl

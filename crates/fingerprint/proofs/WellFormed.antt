@@ -3,6 +3,7 @@ use Prim.Native.Nat.{ℕ, _≤_}
 use mathlib.Core.Path.{_≡_, sym, ap, _∙_, subst}
 use mathlib.Core.Bool.{_&&_}
 use mathlib.Core.List.{List, [], _∷_, _++_}
+use mathlib.Core.Option.{some}
 use mathlib.Core.Logic.{_↔_}
 use native.Mathlib.Omega.{arith}
 use lib.ListN.{length, drop, getD, length-append}
@@ -19,7 +20,7 @@ use Rattle.fingerprint_bodies.specs.Entries.{whole}
 use Rattle.fingerprint_bodies.specs.Conditions.{Fits}
 use Rattle.fingerprint_bodies.proofs.RoundTrip.{vector-bytes, whole-read, whole-back}
 use Rattle.fingerprint.specs.ClientHello.{ClientHello, encodeExtensions, encodeFields, encode, WellFormed}
-use Rattle.fingerprint.specs.Reader.{inForm, allExtensions, Fields, fields, withExtensions, readExtensions, readBody, read}
+use Rattle.fingerprint.specs.Reader.{inForm, allExtensions, Fields, fields, withExtensions, readExtensions, readBody, readFields, read}
 use Rattle.fingerprint.proofs.WalkTrips.{inForm-result, extensions-read, extensions-back}
 use Rattle.fingerprint.proofs.FieldTrips.{encoded, FormedFields, fields-read, fields-back}
 
@@ -73,19 +74,22 @@ module _ (v : ClientHello) (h : WellFormed v) where
         block-fits = block-fits;
       }
 
-  body-of : readBody (vector 3 (encodeFields v)) ≡ result v
-  unfolding readBody readExtensions encodeFields
-  body-of =
+  body-of : readBody (vector 3 (encodeFields v)) ≡ result (fieldsOf v)
+  unfolding readBody encodeFields
+  body-of = rw (whole-read 3 (encoded (fieldsOf v)) fields-fit, fields-read (fieldsOf v) formed-fields)
+
+  fields-of : readFields (encode v) ≡ result (fieldsOf v)
+  unfolding readFields encode
+  fields-of = rw (le-leb (length (encode v)) 16384 (h .short), le-leb 1 (length (encode v)) (omega arith)) body-of
+
+  pub read-encoded : read (encode v) ≡ result v
+  unfolding read readExtensions
+  read-encoded =
       rw (
-        whole-read 3 (encoded (fieldsOf v)) fields-fit,
-        fields-read (fieldsOf v) formed-fields,
+        fields-of,
         le-leb (length (v .cipherSuites)) 64 (h .suites .few),
         extensions-read (v .extensions) (h .extensions) (h .types-once) (h .few),
       )
-
-  pub read-encoded : read (encode v) ≡ result v
-  unfolding read encode
-  read-encoded = rw (le-leb (length (encode v)) 16384 (h .short), le-leb 1 (length (encode v)) (omega arith)) body-of
 
 -- ---- what is read is a well-formed hello
 
@@ -98,16 +102,15 @@ record BodyIn (bs : List ℕ) (v : ClientHello) : Type 0 where
   is : vector 3 (encodeFields v) ≡ bs
   formed : length (encode v) ≤ 16384 → WellFormed v
 
-body-back : (bs : List ℕ) (v : ClientHello) → Bytes bs → readBody bs ≡ result v → BodyIn bs v
+body-back : (bs : List ℕ) (f : Fields) (v : ClientHello) → Bytes bs → readBody bs ≡ result f → readExtensions f ≡ result v → BodyIn bs v
 unfolding readBody readExtensions encodeFields
-body-back bs v b e =
-    let p = inForm-result (whole 3 bs) 18 (λ body. inForm (fields body) 19 readExtensions) v e in
-    let q = inForm-result (fields (p .value)) 19 readExtensions v (p .after) in
-    let f = q .value in
-    let r = ask-yes (leb (length (f .cipherSuites)) 64) 23 (andThen (allExtensions (f .block)) (λ es. result (withExtensions f es))) v (q .after) in
+body-back bs f v b e g =
+    let p = inForm-result (whole 3 bs) 18 (λ body. inForm (fields body) 19 result) f e in
+    let q = inForm-result (fields (p .value)) 19 result f (p .after) in
+    let r = ask-yes (leb (length (f .cipherSuites)) 64) 23 (andThen (allExtensions (f .block)) (λ es. result (withExtensions f es))) v g in
     let s = andThen-result (allExtensions (f .block)) (λ es. result (withExtensions f es)) v (r .1) in
     let w = whole-back 3 bs (p .value) b (p .is) in
-    let x = fields-back (p .value) f (vector-bytes 3 (p .value) bs (w .0) b) (q .is) in
+    let x = fields-back (p .value) f (vector-bytes 3 (p .value) bs (w .0) b) (q .is ∙ ap some (same-result (q .value) f (q .after))) in
     let y = extensions-back (f .block) (s .value) (x .block-bytes) (s .is) in
     let z = x .formed (leb-true (length (f .cipherSuites)) 64 (r .0)) in
     subst (λ (u : ClientHello). BodyIn bs u) (same-result (withExtensions f (s .value)) v (s .after))
@@ -133,13 +136,14 @@ body-back bs v b e =
     })
 
 pub encoded-read : (h : List ℕ) → Bytes h → (v : ClientHello) → read h ≡ result v → (encode v ≡ h) × WellFormed v
-unfolding read encode
+unfolding read readFields encode
 encoded-read h b v e =
-    let p = ask-yes (leb (length h) 16384) 16 (ask (leb 1 (length h) && eqb (getD h 0 0) 1) 17 (readBody (drop 1 h))) v e in
-    let q = ask-yes (leb 1 (length h) && eqb (getD h 0 0) 1) 17 (readBody (drop 1 h)) v (p .1) in
+    let f = andThen-result (readFields h) readExtensions v e in
+    let p = ask-yes (leb (length h) 16384) 16 (ask (leb 1 (length h) && eqb (getD h 0 0) 1) 17 (readBody (drop 1 h))) (f .value) (f .is) in
+    let q = ask-yes (leb 1 (length h) && eqb (getD h 0 0) 1) 17 (readBody (drop 1 h)) (f .value) (p .1) in
     let long : 1 ≤ length h = leb-true 1 (length h) (and-left (leb 1 (length h)) (eqb (getD h 0 0) 1) (q .0)) in
     let one : getD h 0 0 ≡ 1 = eqb-true (getD h 0 0) 1 (and-right (leb 1 (length h)) (eqb (getD h 0 0) 1) (q .0)) in
-    let r = body-back (drop 1 h) v (bytes-drop 1 h b) (q .1) in
+    let r = body-back (drop 1 h) (f .value) v (bytes-drop 1 h b) (q .1) (f .after) in
     let is : 0x01 ∷ vector 3 (encodeFields v) ≡ h = rw (r .is) (first-byte h long one) in
     (is, r .formed (subst (λ (l : List ℕ). length l ≤ 16384) (sym is) (leb-true (length h) 16384 (p .0))))
 

@@ -19,7 +19,7 @@ use Rattle.fingerprint_parameters.specs.declared.Asked.{Asked}
 use Rattle.fingerprint_lists.specs.Arrays.{span, padded, Part, part, placed}
 use Rattle.fingerprint_lists.specs.declared.Span.{Span}
 use Rattle.fingerprint.specs.ClientHello.{Extension, ClientHello, typeOf, encodeExtensions}
-use Rattle.fingerprint.specs.Reader.{Fields, inForm, withExtensions, oneExtension, extension, walk, allExtensions, afterSuites, afterSession, fields, readExtensions, read}
+use Rattle.fingerprint.specs.Reader.{Fields, inForm, withExtensions, oneExtension, extension, walk, allExtensions, afterSuites, afterSession, fields, readFields, read}
 use Rattle.fingerprint.specs.Report.{numbersIn, namesIn, gathered, blockPlace, report, shown}
 use Rattle.fingerprint.specs.declared.head.Head.{Head}
 use Rattle.fingerprint.specs.declared.head.Head.the-variants as head
@@ -41,6 +41,23 @@ partOf h s = take (s .length) (drop (s .start) h)
 -- ---- The head
 
 -- the fields that were read, where the suites stand, and where the first extension does
+pub record FieldsFound (h : List ℕ) (session : ℕ) (suites : Span) (block : ℕ) : Type 0 where
+  pub found : Fields
+  pub is : readFields h ≡ result found
+  pub block-is : found .block ≡ drop block h
+  pub session-is : length (found .sessionId) ≡ session
+  pub suites-are : found .cipherSuites ≡ wordsIn (partOf h suites)
+  pub suites-even : suites .length ≡ 2 * length (found .cipherSuites)
+  pub place : block ≡ 44 + session + suites .length + length (found .compression)
+  pub suites-inside : suites .start + suites .length ≤ length h
+  pub inside : block ≤ length h
+  pub short : length h ≤ 16384
+
+abbrev pub FieldsAs : Head → List ℕ → Type 0
+FieldsAs (head.Fields s suites b) h = FieldsFound h s suites b
+FieldsAs (head.Refused n) h = (readFields h ≡ refused n) × IsNumber n
+
+-- the same of a hello that has at most 64 suites: what the reader goes on to
 pub record HeadFound (h : List ℕ) (session : ℕ) (suites : Span) (block : ℕ) : Type 0 where
   pub found : Fields
   pub is : read h ≡ andThen (allExtensions (drop block h)) (λ es. result (withExtensions found es))
@@ -57,9 +74,9 @@ abbrev pub HeadAs : Head → List ℕ → Type 0
 HeadAs (head.Fields s suites b) h = HeadFound h s suites b
 HeadAs (head.Refused n) h = (read h ≡ refused n) × IsNumber n
 
--- what the reader makes of a hello of at most 16,384 bytes is what it makes of the fields after the first four bytes
+-- the fields of a hello of at most 16,384 bytes are those after its first four bytes
 pub record BeforeFields (h : List ℕ) : Type 0 where
-  pub is : read h ≡ inForm (fields (drop 4 h)) 19 readExtensions
+  pub is : readFields h ≡ inForm (fields (drop 4 h)) 19 result
   pub short : length h ≤ 16384
 
 -- the same from the suites on, after a session id of so many bytes
@@ -67,7 +84,7 @@ pub record BeforeSuites (h : List ℕ) (session : ℕ) : Type 0 where
   pub version : List ℕ
   pub random : List ℕ
   pub id : List ℕ
-  pub is : read h ≡ inForm (afterSession version random id (drop (39 + session) h)) 19 readExtensions
+  pub is : readFields h ≡ inForm (afterSession version random id (drop (39 + session) h)) 19 result
   pub session-is : length id ≡ session
   pub inside : 39 + session ≤ length h
   pub short : length h ≤ 16384

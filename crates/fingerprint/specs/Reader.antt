@@ -98,16 +98,19 @@ withExtensions f es = record {
   extensions = es;
 }
 
+-- "Its 3-byte length there and true? 18 Fields and block as above? 19"
+unfoldable pub readBody : List ℕ → Answer Fields
+readBody bs = inForm (whole 3 bs) 18 (λ body. inForm (fields body) 19 result)
+
+-- "hello at most 16,384 bytes? 16 First byte there and 01? 17": what stands before the extensions
+unfoldable pub readFields : List ℕ → Answer Fields
+readFields h = ask (leb (length h) 16384) 16 (ask (leb 1 (length h) && eqb (getD h 0 0) 1) 17 (readBody (drop 1 h)))
+
 -- "Suites at most 64? 23 Then each extension in turn"
 unfoldable pub readExtensions : Fields → Answer ClientHello
 readExtensions f =
     ask (leb (length (f .cipherSuites)) 64) 23
     (andThen (allExtensions (f .block)) (λ es. result (withExtensions f es)))
 
--- "Its 3-byte length there and true? 18 Fields and block as above? 19"
-unfoldable pub readBody : List ℕ → Answer ClientHello
-readBody bs = inForm (whole 3 bs) 18 (λ body. inForm (fields body) 19 readExtensions)
-
--- "hello at most 16,384 bytes? 16 First byte there and 01? 17"
 unfoldable pub read : List ℕ → Answer ClientHello
-read h = ask (leb (length h) 16384) 16 (ask (leb 1 (length h) && eqb (getD h 0 0) 1) 17 (readBody (drop 1 h)))
+read h = andThen (readFields h) readExtensions

@@ -1,7 +1,7 @@
 // What stands before the extensions: questions 16 to 19, and the suites' 23.
 ghost use Prim.Native.Nat.{_≤_};
 ghost use lib.ListN.{length};
-ghost use Rattle.fingerprint.specs.Code.{HeadAs, BeforeFields, BeforeSuites, BlockAs, EndAs};
+ghost use Rattle.fingerprint.specs.Code.{FieldsAs, HeadAs, BeforeFields, BeforeSuites, BlockAs, EndAs};
 use fingerprint_lists::Span;
 use wire::be16;
 use wire::wide;
@@ -19,9 +19,24 @@ pub enum Place {
     Cut,
 }
 
-// Hello at most 16,384 bytes? 16 First byte there and 01? 17 Its 3-byte length there and true? 18
+// All of it: the fields, and then "Suites at most 64? 23".
 pub fn read_head(hello: &[u8]) -> Head
     ensures { λ r. ⌜ HeadAs r (now (hello .entry)) ⌝ }
+{
+    match read_fields(hello) {
+        Head::Fields(session, suites, block) => {
+            if 128 < suites.length {
+                return Head::Refused(23);
+            }
+            Head::Fields(session, suites, block)
+        }
+        Head::Refused(number) => Head::Refused(number),
+    }
+}
+
+// Hello at most 16,384 bytes? 16 First byte there and 01? 17 Its 3-byte length there and true? 18 Fields and block in their form? 19
+pub fn read_fields(hello: &[u8]) -> Head
+    ensures { λ r. ⌜ FieldsAs r (now (hello .entry)) ⌝ }
 {
     let n = hello.len();
     if 16384 < n {
@@ -40,13 +55,13 @@ pub fn read_head(hello: &[u8]) -> Head
     if length != (n - 4) as u64 {
         return Head::Refused(18);
     }
-    read_fields(hello)
+    after_length(hello)
 }
 
 // Version, unread, 32 random bytes, and a session id of up to 32 bytes.
-fn read_fields(hello: &[u8]) -> Head
+fn after_length(hello: &[u8]) -> Head
     requires { ⌜ BeforeFields (now hello) ⌝ }
-    ensures { λ r. ⌜ HeadAs r (now (hello .entry)) ⌝ }
+    ensures { λ r. ⌜ FieldsAs r (now (hello .entry)) ⌝ }
 {
     let n = hello.len();
     if n < 39 {
@@ -62,10 +77,10 @@ fn read_fields(hello: &[u8]) -> Head
     after_session(hello, session)
 }
 
-// The suites. Whether there are more than 64 is asked after all other fields.
+// The suites. Whether there are more than 64 is asked after all fields.
 fn after_session(hello: &[u8], session: usize) -> Head
     requires { ⌜ BeforeSuites (now hello) session ⌝ }
-    ensures { λ r. ⌜ HeadAs r (now (hello .entry)) ⌝ }
+    ensures { λ r. ⌜ FieldsAs r (now (hello .entry)) ⌝ }
 {
     let n = hello.len();
     let at = 39 + session;
@@ -86,9 +101,6 @@ fn after_session(hello: &[u8], session: usize) -> Head
     let Place::At(block) = after_suites(hello, start + length) else {
         return Head::Refused(19);
     };
-    if 128 < length {
-        return Head::Refused(23);
-    }
     Head::Fields(session, Span { start, length }, block)
 }
 

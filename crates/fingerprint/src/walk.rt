@@ -102,8 +102,8 @@ fn is_known(known: &[u16; 64], count: usize, marks: &[bool; 64], t: u16) -> bool
 }
 
 // The header of the extension at a place.
-fn read_header(hello: &[u8], at: usize) -> Header
-    requires { ⌜ (at ≤ length (now hello)) × (length (now hello) ≤ 16384) ⌝ }
+pub fn read_header(hello: &[u8], at: usize) -> Header
+    requires { ⌜ at ≤ length (now hello) ⌝ }
     ensures { λ r. ⌜ HeaderAs r (now (hello .entry)) at ⌝ }
 {
     let n = hello.len();

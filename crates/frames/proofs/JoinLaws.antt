@@ -3,16 +3,19 @@ use Prim.Native.Nat.{ℕ, _+_, _-_, _≤_, _<_}
 use mathlib.Core.Path.{_≡_, refl, sym, ap, _∙_}
 use mathlib.Core.Bool.{true, false}
 use mathlib.Core.List.{List, []}
+use mathlib.Core.Option.{none, some}
 use native.Mathlib.Omega.{arith}
 use lib.ListN.{length, take, drop, replicate}
 use lib.Dec.{lit≤}
 use Rattle.wire.specs.Answer.{result, refused, IsNumber}
 use Rattle.wire.proofs.AnswerLaws.{apart, same-result}
+use Rattle.stops.specs.Stops.{stopped}
 use Rattle.frames.specs.Frame.{Piece}
 use Rattle.frames.specs.Stream.{gapless, stream}
 use Rattle.frames.specs.Join.{limit, close, join}
+use Rattle.frames.specs.Stops.{stopAt, joinStops}
 use Rattle.frames.specs.Buffers.{Carries, marked, Stepping, Joining}
-use Rattle.frames.specs.declared.joining.Joined.the-variants as joined
+use Rattle.frames.specs.declared.joining.Walked.the-variants as walked
 use Rattle.frames.specs.declared.joining.Step.the-variants as step
 use Rattle.frames.proofs.EachLaws.{length-values}
 use Rattle.frames.proofs.RunLaws.{Running}
@@ -39,9 +42,10 @@ starts frames out marks o m =
       wide = refl;
     }
 
-refuses : (frames out marks : List ℕ) (k : ℕ) (out′ marks′ : List ℕ) → join frames ≡ refused k → IsNumber k → Joining frames out marks (joined.Refused k) out′ marks′
-refuses frames out marks k out′ marks′ j b =
-    record { is = rw j; output = λ s q. absurd (apart (sym j ∙ q)); ones = λ s q. absurd (apart (sym j ∙ q)); bounds = b }
+refuses : (frames out marks : List ℕ) (k at : ℕ) (out′ marks′ : List ℕ) → join frames ≡ refused k → joinStops frames ≡ some (stopped k at) → IsNumber k
+    → at ≤ length frames → Joining frames out marks (walked.Refused k at) out′ marks′
+refuses frames out marks k at out′ marks′ j p b h =
+    record { is = rw j; stop = sym p; output = λ s q. absurd (apart (sym j ∙ q)); ones = λ s q. absurd (apart (sym j ∙ q)); bounds = (b, h) }
 
 module _ {frames out₀ marks₀ out marks : List ℕ} {at e : ℕ} (i : Laying frames out₀ marks₀ out marks at e) where
   module _ {out′ marks′ : List ℕ} (h : at < length frames) where
@@ -58,13 +62,17 @@ module _ {frames out₀ marks₀ out marks : List ℕ} {at e : ℕ} (i : Laying 
           wide = b ∙ i .wide;
         }
 
-    pub stops : {k : ℕ} → Stepping (drop at frames) out marks e (step.Refused k) out′ marks′ → Joining frames out₀ marks₀ (joined.Refused k) out′ marks′
+    pub stops : {k : ℕ} → Stepping (drop at frames) out marks e (step.Refused k) out′ marks′ → Joining frames out₀ marks₀ (walked.Refused k at) out′ marks′
     stops {k} s =
-        refuses frames out₀ marks₀ k out′ marks′ (run.stops frames at (i .placed) (i .running) k h (s .is (i .placed) (i .carries))) (s .bounds)
+        let r = run.stops frames at (i .placed) (i .running) k h (s .is (i .placed) (i .carries)) in
+        refuses frames out₀ marks₀ k at out′ marks′ (r .0) (r .1) (s .bounds) (omega arith)
 
   module _ (h : length frames ≤ at) (ho : limit ≤ length out₀) (hm : limit ≤ length marks₀) where
     closes : join frames ≡ close (i .placed)
     closes = run.ends frames at (i .placed) (i .running) h
+
+    stops-last : joinStops frames ≡ stopAt (length frames) (join frames) (λ s. none)
+    stops-last = run.ends-there frames at (i .placed) (i .running) h
 
     below : e ≤ length marks
     below = omega (arith, i .ends, i .wide)
@@ -74,7 +82,7 @@ module _ {frames out₀ marks₀ out marks : List ℕ} {at e : ℕ} (i : Laying 
         let z : e - 0 ≡ e = omega arith in
         rw z (marked-as (i .placed) out marks e (i .carries) below)
 
-    pub ends-whole : marked (take (e - 0) (drop 0 marks)) ≡ true → Joining frames out₀ marks₀ (joined.End e) out marks
+    pub ends-whole : marked (take (e - 0) (drop 0 marks)) ≡ true → Joining frames out₀ marks₀ (walked.End e) out marks
     unfolding close stream
     ends-whole m =
         let g : gapless (i .placed) ≡ true = sym marked-below ∙ m in
@@ -83,11 +91,15 @@ module _ {frames out₀ marks₀ out marks : List ℕ} {at e : ℕ} (i : Laying 
         λ s q. same-result (stream (i .placed)) s (sym j ∙ q) in
         record {
           is = rw (j, length-values) (ap result (i .carries .ends));
+          stop = sym (stops-last ∙ rw j);
           output = λ s q. rw (← same s q, ← i .long) (stream-held (i .placed) out marks e (i .carries) below (omega (arith, i .ends, i .long)));
           ones = λ s q. rw (← same s q, ← i .wide) (ones-held (i .placed) out marks e (i .carries) below g);
           bounds = i .ends;
         }
 
-    pub ends-gap : marked (take (e - 0) (drop 0 marks)) ≡ false → Joining frames out₀ marks₀ (joined.Refused 15) out marks
+    pub ends-gap : marked (take (e - 0) (drop 0 marks)) ≡ false → Joining frames out₀ marks₀ (walked.Refused 15 (length frames)) out marks
     unfolding close
-    ends-gap m = refuses frames out₀ marks₀ 15 out marks (let g = sym marked-below ∙ m in closes ∙ rw g) (lit≤ tt, lit≤ tt)
+    ends-gap m =
+        let g = sym marked-below ∙ m in
+        let j : join frames ≡ refused 15 = closes ∙ rw g in
+        refuses frames out₀ marks₀ 15 (length frames) out marks j (stops-last ∙ rw j) (lit≤ tt, lit≤ tt) (omega arith)

@@ -1,4 +1,5 @@
 pub mod ReadBack
+pub mod StopLaws
 pub mod RunLaws
 pub mod FrameLists
 pub mod EachLaws

@@ -2,16 +2,20 @@
 use Prim.Native.Nat.{ℕ, zero, suc, _+_, _-_, _≤_, _<_}
 use mathlib.Core.Path.{_≡_, refl, sym, _∙_}
 use mathlib.Core.List.{List, [], _∷_}
+use mathlib.Core.Option.{none, some}
 use native.Mathlib.Omega.{arith}
 use lib.ListN.{length, drop, length-drop}
 use lib.Seq.{drop-drop}
 use Rattle.wire.specs.Answer.{result, refused, andThen}
 use Rattle.wire.proofs.AnswerLaws.{apart, andThen-agree}
+use Rattle.stops.specs.Stops.{stopped}
 use Rattle.frames.specs.Frame.{Piece}
 use Rattle.frames.specs.Read.{Shape, readFrame, extent}
 use Rattle.frames.specs.Join.{placeFrame, placeAll, close, join}
-use Rattle.frames.specs.Buffers.{Stopped, unread, unlaid}
+use Rattle.frames.specs.Stops.{stopAt, placeStops, joinStops}
+use Rattle.frames.specs.Buffers.{Refuses, unread, unlaid}
 use Rattle.frames.proofs.ReadBack.{extent-bounds}
+use Rattle.frames.proofs.StopLaws.{stop-none, stop-read, stop-unread}
 
 -- ---- a turn
 
@@ -53,20 +57,26 @@ place-fuel (suc n) (suc m) (b ∷ bs) placed h k =
 
 -- ---- a loop over the frames
 
--- enough fuel is left for the bytes from a place on, and they give what all give
+-- enough fuel is left for the bytes from a place on, they give what all give, and stop where all stop
 pub record Running (bs : List ℕ) (at : ℕ) (placed : List Piece) : Type 0 where
   pub within : at ≤ length bs
   pub fuel : ℕ
   pub enough : length bs - at ≤ fuel
   pub rest : placeAll fuel (drop at bs) placed ≡ placeAll (length bs) bs []
+  pub stop : placeStops fuel at (drop at bs) placed ≡ placeStops (length bs) 0 bs []
 
 pub starts : (bs : List ℕ) → Running bs 0 []
-starts bs = record { within = omega arith; fuel = length bs; enough = omega arith; rest = refl }
+starts bs = record { within = omega arith; fuel = length bs; enough = omega arith; rest = refl; stop = refl }
 
 -- a refusal of the first frame is the refusal of all
-place-stopped : (n : ℕ) (bs : List ℕ) (placed : List Piece) (k : ℕ) → 0 < length bs → Stopped bs placed k → placeAll (suc n) bs placed ≡ refused k
+place-stopped : (n : ℕ) (bs : List ℕ) (placed : List Piece) (k : ℕ) → 0 < length bs → Refuses bs placed k → placeAll (suc n) bs placed ≡ refused k
 place-stopped n bs placed k h (unread e) = place-unread n bs placed k h e
 place-stopped n bs placed k h (unlaid s e l) = place-read n bs placed s e ∙ rw l
+
+stops-there : (n at : ℕ) (bs : List ℕ) (placed : List Piece) (k : ℕ) → 0 < length bs → Refuses bs placed k
+    → placeStops (suc n) at bs placed ≡ some (stopped k at)
+stops-there n at bs placed k h (unread e) = stop-unread n at bs placed k h e
+stops-there n at bs placed k h (unlaid s e l) = stop-read n at bs placed s e ∙ rw l
 
 module _ (bs : List ℕ) (at : ℕ) (placed : List Piece) (i : Running bs at placed) where
   -- where a frame was read, there was a byte
@@ -76,27 +86,43 @@ module _ (bs : List ℕ) (at : ℕ) (placed : List Piece) (i : Running bs at pla
   pub goes-on :
       (s : Shape) (more : List Piece) (used : ℕ) → readFrame (drop at bs) ≡ result s → placeFrame (drop at bs) s placed ≡ result more → used ≡ extent s
       → Running bs (at + used) more
-  goes-on s more used e l w = go (i .fuel) (i .enough) (i .rest)
+  goes-on s more used e l w = go (i .fuel) (i .enough) (i .rest) (i .stop)
     where
-      go : (n : ℕ) → length bs - at ≤ n → placeAll n (drop at bs) placed ≡ placeAll (length bs) bs [] → Running bs (at + used) more
-      go zero h r = absurd (omega (arith, past s e))
-      go (suc n) h r =
+      go : (n : ℕ) → length bs - at ≤ n → placeAll n (drop at bs) placed ≡ placeAll (length bs) bs []
+          → placeStops n at (drop at bs) placed ≡ placeStops (length bs) 0 bs [] → Running bs (at + used) more
+      go zero h r t = absurd (omega (arith, past s e))
+      go (suc n) h r t =
           let b = extent-bounds (drop at bs) s e in
           record {
             within = omega (arith, b, length-drop at bs);
             fuel = n;
             enough = omega (arith, b);
             rest = rw (w, ← drop-drop) (sym (place-read n (drop at bs) placed s e ∙ rw l) ∙ r);
+            stop = rw (w, ← drop-drop) (sym (stop-read n at (drop at bs) placed s e ∙ rw l) ∙ t);
           }
 
-  pub stops : (n : ℕ) → at < length bs → Stopped (drop at bs) placed n → join bs ≡ refused n
-  unfolding join
-  stops n h e = go (i .fuel) (i .enough) (i .rest)
+  pub stops : (n : ℕ) → at < length bs → Refuses (drop at bs) placed n → (join bs ≡ refused n) × (joinStops bs ≡ some (stopped n at))
+  unfolding join joinStops
+  stops n h e = go (i .fuel) (i .enough) (i .rest) (i .stop)
     where
-      go : (m : ℕ) → length bs - at ≤ m → placeAll m (drop at bs) placed ≡ placeAll (length bs) bs [] → andThen (placeAll (length bs) bs []) close ≡ refused n
-      go zero k r = absurd (omega arith)
-      go (suc m) k r = rw (← r, place-stopped m (drop at bs) placed n (omega (arith, length-drop at bs)) e)
+      some-left : 0 < length (drop at bs)
+      some-left = omega (arith, length-drop at bs)
 
-  pub ends : length bs ≤ at → join bs ≡ close placed
-  unfolding join
-  ends h = rw (← i .rest, place-none (i .fuel) (drop at bs) placed (omega (arith, length-drop at bs)))
+      go : (m : ℕ) → length bs - at ≤ m → placeAll m (drop at bs) placed ≡ placeAll (length bs) bs []
+          → placeStops m at (drop at bs) placed ≡ placeStops (length bs) 0 bs [] → (join bs ≡ refused n) × (joinStops bs ≡ some (stopped n at))
+      go zero k r t = absurd (omega arith)
+      go (suc m) k r t =
+          (rw (← r, place-stopped m (drop at bs) placed n some-left e), rw (← t, stops-there m at (drop at bs) placed n some-left e))
+
+  module _ (h : length bs ≤ at) where
+    none-left : length (drop at bs) ≤ 0
+    none-left = omega (arith, length-drop at bs)
+
+    pub ends : join bs ≡ close placed
+    unfolding join
+    ends = rw (← i .rest, place-none (i .fuel) (drop at bs) placed none-left)
+
+    -- once all frames are placed, the end of the list is the only place to stop at
+    pub ends-there : joinStops bs ≡ stopAt (length bs) (join bs) (λ s. none)
+    unfolding joinStops
+    ends-there = rw (← i .stop, stop-none (i .fuel) at (drop at bs) placed none-left)

@@ -2,12 +2,15 @@
 use Prim.Native.Nat.{ℕ}
 use mathlib.Core.Path.{_≡_, refl}
 use mathlib.Core.List.{List, [], _∷_, map}
+use mathlib.Core.Option.{Option, none, some}
 use Rattle.wire.specs.Answer.{Answer, result, refused}
 use Rattle.wire.specs.Numbers.{numberOn, number}
+use Rattle.stops.specs.Stops.{Stopped, stopped}
 use Rattle.varint.specs.Varint.{classAt, readOf}
 use Rattle.frames.specs.Read.{readCrypto, readFrame}
 use Rattle.frames.specs.Stream.{has, byteAt, filled, held, endOf, each, values, agrees, gapless, stream}
 use Rattle.frames.specs.Join.{place, placeAll, close, join}
+use Rattle.frames.specs.Stops.{placeStops, joinStops}
 
 abbrev pub questions : List (List ℕ)
 questions =
@@ -48,3 +51,37 @@ answers =
 pub samples : map join questions ≡ answers
 unfolding numberOn number classAt readOf readCrypto readFrame has byteAt filled held endOf each values agrees gapless stream place placeAll close join
 samples = refl
+
+-- ---- Where it stops
+
+abbrev pub lists : List (List ℕ)
+lists =
+    -- at the second frame, whose type is unknown, of which a byte is missing, which ends past 16,384, or whose byte conflicts
+    (0x06 ∷ 0x00 ∷ 0x01 ∷ 0xaa ∷ 0x04 ∷ [])
+    ∷ (0x06 ∷ 0x00 ∷ 0x01 ∷ 0xaa ∷ 0x06 ∷ 0x01 ∷ 0x01 ∷ [])
+    ∷ (0x06 ∷ 0x00 ∷ 0x01 ∷ 0xaa ∷ 0x06 ∷ 0x7f ∷ 0xff ∷ 0x02 ∷ 0x62 ∷ 0x62 ∷ [])
+    ∷ (0x06 ∷ 0x00 ∷ 0x01 ∷ 0xaa ∷ 0x06 ∷ 0x00 ∷ 0x01 ∷ 0xab ∷ [])
+    -- PING and PADDING are frames of one byte each
+    ∷ (0x01 ∷ 0x00 ∷ 0x00 ∷ 0x04 ∷ 0x00 ∷ [])
+    -- after all frames: place 0 is empty
+    ∷ (0x06 ∷ 0x01 ∷ 0x01 ∷ 0xbb ∷ [])
+    -- frames that join, and no frames
+    ∷ (0x06 ∷ 0x00 ∷ 0x01 ∷ 0xaa ∷ 0x00 ∷ [])
+    ∷ []
+    ∷ []
+
+abbrev pub stops : List (Option Stopped)
+stops =
+    some (stopped 11 4)
+    ∷ some (stopped 12 4)
+    ∷ some (stopped 13 4)
+    ∷ some (stopped 14 4)
+    ∷ some (stopped 11 3)
+    ∷ some (stopped 15 4)
+    ∷ none
+    ∷ none
+    ∷ []
+
+pub stop-samples : map joinStops lists ≡ stops
+unfolding numberOn number classAt readOf readCrypto readFrame has byteAt filled held endOf each values agrees gapless stream place placeAll close join placeStops joinStops
+stop-samples = refl

@@ -3,18 +3,23 @@ use Prim.Native.Nat.{ℕ, _+_, _≤_, _<_}
 use mathlib.Core.Path.{_≡_}
 use mathlib.Core.Bool.{Bool, not, _||_}
 use mathlib.Core.List.{List}
+use mathlib.Core.Option.{Option, none, some}
 use lib.ListN.{length, take, drop, getD, replicate}
 use lib.Dec.{eqb, leb}
 use Rattle.wire.specs.Answer.{Answer, result, refused, ask, unlessRefused, IsNumber}
 use Rattle.wire.specs.Front.{frontAt}
 use Rattle.wire.specs.Sums.{indicator}
+use Rattle.stops.specs.Stops.{Stopped, stopped}
 use Rattle.frames.specs.Frame.{Piece}
 use Rattle.frames.specs.Read.{Shape, readFrame, extent}
 use Rattle.frames.specs.Stream.{filled, held, endOf, each, values}
-use Rattle.frames.specs.Join.{limit, placeFrame, join, ended, padded, endAnswer, JoinBounds}
+use Rattle.frames.specs.Join.{limit, placeFrame, join, ended, joinOf, padded, outAfter, marksAfter, endAnswer, JoinBounds}
+use Rattle.frames.specs.Stops.{joinStops, joinerStops}
 use Rattle.frames.specs.declared.joining.Joined.{Joined}
 use Rattle.frames.specs.declared.joining.Step.{Step}
 use Rattle.frames.specs.declared.joining.Step.the-variants as step
+use Rattle.frames.specs.declared.joining.Walked.{Walked}
+use Rattle.frames.specs.declared.joining.Walked.the-variants as walked
 
 -- 1 where pieces have a byte
 abbrev pub mark : List Piece → ℕ → ℕ
@@ -76,21 +81,45 @@ pub record Went (bs : List ℕ) (placed : List Piece) (used end : ℕ) (out mark
   pub width : used ≡ extent shape
   pub carries : Carries more out marks end
 
-pub data Stopped (bs : List ℕ) (placed : List Piece) (n : ℕ) : Type 0 where
-  unread : readFrame bs ≡ refused n → Stopped bs placed n
-  unlaid : (f : Shape) → readFrame bs ≡ result f → placeFrame bs f placed ≡ refused n → Stopped bs placed n
+pub data Refuses (bs : List ℕ) (placed : List Piece) (n : ℕ) : Type 0 where
+  unread : readFrame bs ≡ refused n → Refuses bs placed n
+  unlaid : (f : Shape) → readFrame bs ≡ result f → placeFrame bs f placed ≡ refused n → Refuses bs placed n
 
 abbrev pub Stepped : List ℕ → List Piece → Step → List ℕ → List ℕ → Type 0
 Stepped bs placed (step.Next used e) out marks = Went bs placed used e out marks
-Stepped bs placed (step.Refused n) out marks = Stopped bs placed n
+Stepped bs placed (step.Refused n) out marks = Refuses bs placed n
 
 pub record Stepping (bs out marks : List ℕ) (end : ℕ) (r : Step) (out′ marks′ : List ℕ) : Type 0 where
   pub is : (placed : List Piece) → Carries placed out marks end → Stepped bs placed r out′ marks′
   pub bounds : StepBounds (length bs) r
 
--- all frames, on buffers that were all zero; a refusal leaves them to the caller
-pub record Joining (bs out marks : List ℕ) (r : Joined) (out′ marks′ : List ℕ) : Type 0 where
-  pub is : endAnswer r ≡ ended (join bs)
+-- ---- All frames
+
+-- the two readings of what the walk over the frames answers: the joiner's answer, and where it stopped
+abbrev pub walkedAnswer : Walked → Answer ℕ
+walkedAnswer (walked.End e) = result e
+walkedAnswer (walked.Refused n at) = refused n
+
+abbrev pub walkedStop : Walked → Option Stopped
+walkedStop (walked.End e) = none
+walkedStop (walked.Refused n at) = some (stopped n at)
+
+abbrev pub WalkBounds : ℕ → Walked → Type 0
+WalkBounds length (walked.End e) = e ≤ limit
+WalkBounds length (walked.Refused n at) = IsNumber n × (at ≤ length)
+
+-- on buffers that were all zero; a refusal leaves them to the caller
+pub record Joining (bs out marks : List ℕ) (r : Walked) (out′ marks′ : List ℕ) : Type 0 where
+  pub is : walkedAnswer r ≡ ended (join bs)
+  pub stop : walkedStop r ≡ joinStops bs
   pub output : (s : List ℕ) → join bs ≡ result s → out′ ≡ padded s (length out)
   pub ones : (s : List ℕ) → join bs ≡ result s → marks′ ≡ padded (replicate (length s) 1) (length marks)
-  pub bounds : JoinBounds r
+  pub bounds : WalkBounds (length bs) r
+
+-- on any buffers
+pub record Walks (bs out marks : List ℕ) (r : Walked) (out′ marks′ : List ℕ) : Type 0 where
+  pub is : walkedAnswer r ≡ joinOf bs out marks
+  pub stop : walkedStop r ≡ joinerStops bs out marks
+  pub output : out′ ≡ outAfter bs out marks
+  pub marked : marks′ ≡ marksAfter bs out marks
+  pub bounds : WalkBounds (length bs) r

@@ -3,9 +3,11 @@ ghost use Prim.Native.Nat.{_+_, _≤_, _<_, max};
 ghost use mathlib.Core.Path.{_≡_};
 ghost use lib.ListN.{length, replicate};
 ghost use Rattle.frames.specs.Join.{limit, roomy, Joins};
-ghost use Rattle.frames.specs.Buffers.{agreeing, marked, zeros, Padding, Placing, Stepping, Joining};
+ghost use Rattle.frames.specs.Stops.{StopsAt};
+ghost use Rattle.frames.specs.Buffers.{agreeing, marked, zeros, Padding, Placing, Stepping, Joining, Walks};
 use crate::reading::FrameRead;
 use crate::reading::read_frame;
+use stops::Stop;
 
 // The longest stream, and the least length of each buffer.
 pub const LIMIT: usize = 16384;
@@ -20,6 +22,12 @@ pub enum Joined {
 pub enum Step {
     Next(usize, usize),
     Refused(u64),
+}
+
+// The end of the stream; or the number of the refusal and its place in the frames.
+pub enum Walked {
+    End(usize),
+    Refused(u64, usize),
 }
 
 // Sets every place to v.
@@ -145,7 +153,7 @@ fn join_frame(input: &[u8], out: &mut [u8], marks: &mut [u8], end: usize) -> Ste
 }
 
 // All frames, onto cleared buffers: questions 11 to 15. After a frame of one byte there may be much PADDING.
-fn join_all(frames: &[u8], out: &mut [u8], marks: &mut [u8]) -> Joined
+fn join_all(frames: &[u8], out: &mut [u8], marks: &mut [u8]) -> Walked
     requires { ⌜ (limit ≤ length (now out)) × (limit ≤ length (now marks)) × (now out ≡ replicate (length (now out)) 0) × (now marks ≡ replicate (length (now marks)) 0) ⌝ }
     ensures { λ r. ⌜ Joining (now (frames .entry)) (now (out .entry)) (now (marks .entry)) r (now (out .exit)) (now (marks .exit)) ⌝ }
 {
@@ -161,14 +169,14 @@ fn join_all(frames: &[u8], out: &mut [u8], marks: &mut [u8]) -> Joined
                 end = e;
             }
             Step::Refused(n) => {
-                return Joined::Refused(n);
+                return Walked::Refused(n, at);
             }
         }
     }
     if all_marked(&marks[0..end]) {
-        Joined::End(end)
+        Walked::End(end)
     } else {
-        Joined::Refused(15)
+        Walked::Refused(15, frames.len())
     }
 }
 
@@ -182,22 +190,43 @@ fn has_room(out: &[u8], marks: &[u8]) -> bool
     LIMIT <= marks.len()
 }
 
+// All frames, onto any buffers: questions 10 to 15.
+fn join_onto(frames: &[u8], out: &mut [u8], marks: &mut [u8]) -> Walked
+    ensures { λ r. ⌜ Walks (now (frames .entry)) (now (out .entry)) (now (marks .entry)) r (now (out .exit)) (now (marks .exit)) ⌝ }
+{
+    if !has_room(out, marks) {
+        return Walked::Refused(10, 0);
+    }
+    fill(out, 0);
+    fill(marks, 0);
+    match join_all(frames, out, marks) {
+        Walked::End(end) => Walked::End(end),
+        Walked::Refused(n, at) => {
+            fill(out, 0);
+            fill(marks, 0);
+            Walked::Refused(n, at)
+        }
+    }
+}
+
 // Joins frames. On success the output holds the stream and then zeros, the marks ones up to its end and then zeros. Refusal 10, where a
 // buffer has fewer than 16,384 bytes, leaves both; 11 to 15 leave both all zero.
 pub fn reassemble_crypto(frames: &[u8], out: &mut [u8], marks: &mut [u8]) -> Joined
     ensures { λ r. ⌜ Joins (now (frames .entry)) (now (out .entry)) (now (marks .entry)) r (now (out .exit)) (now (marks .exit)) ⌝ }
 {
-    if !has_room(out, marks) {
-        return Joined::Refused(10);
+    match join_onto(frames, out, marks) {
+        Walked::End(end) => Joined::End(end),
+        Walked::Refused(n, _) => Joined::Refused(n),
     }
-    fill(out, 0);
-    fill(marks, 0);
-    match join_all(frames, out, marks) {
-        Joined::End(end) => Joined::End(end),
-        Joined::Refused(n) => {
-            fill(out, 0);
-            fill(marks, 0);
-            Joined::Refused(n)
-        }
+}
+
+// Where joining these frames stops: 10 at place 0, 11 to 14 at the frame that is refused, 15 at the end of the frames. The buffers are left
+// as by `reassemble_crypto`.
+pub fn joiner_stopped_at(frames: &[u8], out: &mut [u8], marks: &mut [u8]) -> Stop
+    ensures { λ r. ⌜ StopsAt (now (frames .entry)) (now (out .entry)) (now (marks .entry)) r (now (out .exit)) (now (marks .exit)) ⌝ }
+{
+    match join_onto(frames, out, marks) {
+        Walked::End(_) => Stop::Nowhere,
+        Walked::Refused(n, at) => Stop::At(n, at),
     }
 }

@@ -1,4 +1,4 @@
--- `after_session` goes on from the suites: each test is one of the definition's, and more than 64 suites are refused last. Assumes nothing.
+-- `after_session` goes on from the suites: each test is one of the definition's. Assumes nothing.
 use mathlib.Core.Path.{_≡_, sym, subst}
 use Prim.Native.Nat.{_+_}
 use lib.ListN.{take, drop}
@@ -8,7 +8,7 @@ use Rattle.fingerprint.specs.Reader.{afterSession}
 use Rattle.fingerprint.specs.Code.{BlockAs, BlockFound}
 use Rattle.fingerprint.specs.declared.head.Place.{Place}
 use Rattle.fingerprint.proofs.HeadLaws.{suites-short, suites-few, suites-odd, suites-cut}
-use Rattle.fingerprint.proofs.HeadAnswers.{not-in-form, block-not-there, many-suites, head-there}
+use Rattle.fingerprint.proofs.HeadAnswers.{not-in-form, block-not-there, fields-there}
 use borrow.Author.Needs.{needs}
 use Rattle.fingerprint.proofs.head.after_session.Statement.{statement}
 use Rattle.fingerprint.proofs.head.after_session.Tie as tie
@@ -89,11 +89,7 @@ returns-5 c =
 
 returns-6 : tie.Need-returns-6
 returns-6 c =
-    many-suites (c .before .before .before .before .before .before .before .before .before .before .before .before .args .hello .now) (c .before .before .before .before .before .before .before .before .before .before .before .before .args .session) (c .before .before .before .before .before .before .before .before .be16 .result) (c .before .before .before .before .before .before .before .before .before .before .before .before .pre) (c .before .before .before .before .before .before .before .before .before .before .if1 .left) (count (c .before .before .before .before .before .before .before .before)) (c .before .before .before .before .before .before .before .if2 .left) (c .before .before .before .before .before .before .if3 .left) (c .before .before .before .before .before .if4 .left) (c .before .before .block .given .0 .0) (block (c .before)) (c .if5 .taken)
-
-returns-7 : tie.Need-returns-7
-returns-7 c =
-    head-there (c .before .before .before .before .before .before .before .before .before .before .before .before .args .hello .now) (c .before .before .before .before .before .before .before .before .before .before .before .before .args .session) (c .before .before .before .before .before .before .before .before .be16 .result) (c .before .before .before .before .before .before .before .before .before .before .before .before .pre) (c .before .before .before .before .before .before .before .before .before .before .if1 .left) (count (c .before .before .before .before .before .before .before .before)) (c .before .before .before .before .before .before .before .if2 .left) (c .before .before .before .before .before .before .if3 .left) (c .before .before .before .before .before .if4 .left) (c .before .before .block .given .0 .0) (block (c .before)) (c .if5 .left)
+    fields-there (c .before .before .before .before .before .before .before .before .before .before .before .args .hello .now) (c .before .before .before .before .before .before .before .before .before .before .before .args .session) (c .before .before .before .before .before .before .before .be16 .result) (c .before .before .before .before .before .before .before .before .before .before .before .pre) (c .before .before .before .before .before .before .before .before .before .if1 .left) (count (c .before .before .before .before .before .before .before)) (c .before .before .before .before .before .before .if2 .left) (c .before .before .before .before .before .if3 .left) (c .before .before .before .before .if4 .left) (c .before .block .given .0 .0) (block c)
 
 pub after-session-spec : {M : Type 1} → statement M
 after-session-spec =
@@ -117,5 +113,4 @@ after-session-spec =
     enum-known-block
     enum-told
     returns-5
-    returns-6
-    returns-7)
+    returns-6)

@@ -1,17 +1,36 @@
--- `read_fields` goes on from the fields to the suites: the session id is there, of at most 32 bytes. Assumes nothing.
-use mathlib.Core.Path.{sym, ap, _∙_}
-use mathlib.Core.Option.{Option}
+-- `read_fields` asks the first questions in turn, and goes on to the fields where the three bytes are the length. Assumes nothing.
+use mathlib.Core.Path.{_≡_, sym, _∙_}
+use Prim.Native.Nat.{_+_, _*_}
+use lib.Dec.{lit≤}
 use lib.ListN.{take, drop}
-use Rattle.fingerprint.specs.Reader.{Fields, inForm, fields, readExtensions}
-use Rattle.fingerprint.proofs.HeadLaws.{fields-short, session-long, session-cut, session-there, session-length}
-use Rattle.fingerprint.proofs.HeadAnswers.{not-in-form}
-use native.Mathlib.Omega.{arith}
+use Rattle.wire.specs.Numbers.{number}
+use Rattle.wire.proofs.ListLaws.{part-to-end}
+use Rattle.fingerprint.proofs.HeadLaws.{number-three, read-long, read-empty, read-type, read-few, read-other, read-fields}
+use Rattle.fingerprint.proofs.HeadAnswers.{refused-with}
 use borrow.Author.Needs.{needs}
 use Rattle.fingerprint.proofs.head.read_fields.Statement.{statement}
 use Rattle.fingerprint.proofs.head.read_fields.Tie as tie
 
+low : (c : tie.After-be16) → number 256 (take 2 (drop 2 (c .before .before .before .before .before .before .before .before .before .before .args .hello .now))) ≡ (c .be16 .result)
+low c = sym (rw (part-to-end (c .before .before .before .before .before .before .before .before .before .before .args .hello .now) 2) at (c .be16 .ensures))
+
+count : (c : tie.After-be16) → number 256 (take 3 (drop 1 (c .before .before .before .before .before .before .before .before .before .before .args .hello .now))) ≡ (c .before .before .wide .result) * 65536 + (c .be16 .result)
+count c = number-three (c .before .before .before .before .before .before .before .before .before .before .args .hello .now) (search needs) ∙ rw (low c, ← (c .before .before .wide .ensures .0))
+
 returns : tie.Need-returns
-returns c = not-in-form (c .before .before .args .hello .now) (fields (drop 4 (c .before .before .args .hello .now))) (c .before .before .pre .is) (fields-short (c .before .before .args .hello .now) (c .if1 .taken))
+returns c = refused-with 16 (c .before .before .args .hello .now) (lit≤ tt, lit≤ tt) (read-long (c .before .before .args .hello .now) (c .if1 .taken))
+
+returns-2 : tie.Need-returns-2
+returns-2 c = refused-with 17 (c .before .before .before .args .hello .now) (lit≤ tt, lit≤ tt) (read-empty (c .before .before .before .args .hello .now) (c .before .if1 .left) (c .if2 .taken))
+
+shared-slice-read-if3 : tie.Need-shared-slice-read-if3
+shared-slice-read-if3 c = search needs
+
+returns-3 : tie.Need-returns-3
+returns-3 c = refused-with 17 (c .before .before .before .before .before .args .hello .now) (lit≤ tt, lit≤ tt) (read-type (c .before .before .before .before .before .args .hello .now) (c .before .before .before .if1 .left) (search needs) (c .if3 .taken))
+
+returns-4 : tie.Need-returns-4
+returns-4 c = refused-with 18 (c .before .before .before .before .before .before .args .hello .now) (lit≤ tt, lit≤ tt) (read-few (c .before .before .before .before .before .before .args .hello .now) (c .before .before .before .before .if1 .left) (search needs) (c .before .if3 .left) (c .if4 .taken))
 
 shared-slice-read-wide : tie.Need-shared-slice-read-wide
 shared-slice-read-wide c = search needs
@@ -19,40 +38,60 @@ shared-slice-read-wide c = search needs
 wide-requires : tie.Need-wide-requires
 wide-requires c κs = search needs
 
-returns-2 : tie.Need-returns-2
-returns-2 c =
-    not-in-form (c .before .before .before .before .before .args .hello .now) (fields (drop 4 (c .before .before .before .before .before .args .hello .now))) (c .before .before .before .before .before .pre .is) (session-long (c .before .before .before .before .before .args .hello .now) (c .before .before .before .if1 .left) (c .before .wide .result) (sym (c .before .wide .ensures .0)) (c .if2 .taken))
+mul-length : tie.Need-mul-length
+mul-length c = search needs
 
-returns-3 : tie.Need-returns-3
-returns-3 c =
-    not-in-form (c .before .before .before .before .before .before .args .hello .now) (fields (drop 4 (c .before .before .before .before .before .before .args .hello .now))) (c .before .before .before .before .before .before .pre .is) (session-cut (c .before .before .before .before .before .before .args .hello .now) (c .before .before .before .before .if1 .left) (c .before .before .wide .result) (sym (c .before .before .wide .ensures .0)) (c .if3 .taken))
+sub-be16 : tie.Need-sub-be16
+sub-be16 c = search needs
 
-after-session-requires : tie.Need-after-session-requires
-after-session-requires c κs =
-    let h = c .before .before .before .before .before .before .args .hello .now in
-    let p = c .before .before .before .before .before .before .pre in
-    let n = c .before .before .wide .result in
+part-be16-start : tie.Need-part-be16-start
+part-be16-start c = search needs
+
+part-be16-end : tie.Need-part-be16-end
+part-be16-end c = search needs
+
+be16-requires : tie.Need-be16-requires
+be16-requires c κs = search needs
+
+cast-length : tie.Need-cast-length
+cast-length c = search needs
+
+add-length : tie.Need-add-length
+add-length c = search needs
+
+returns-5 : tie.Need-returns-5
+returns-5 c =
+    refused-with 18 (c .before .before .before .before .before .before .before .before .before .before .before .args .hello .now) (lit≤ tt, lit≤ tt)
+    (read-other (c .before .before .before .before .before .before .before .before .before .before .before .args .hello .now) (c .before .before .before .before .before .before .before .before .before .if1 .left) (search needs) (c .before .before .before .before .before .before .if3 .left) (c .before .before .before .before .before .if4 .left) ((c .before .before .before .wide .result) * 65536 + (c .before .be16 .result)) (count (c .before)) (c .if5 .taken))
+
+after-length-requires : tie.Need-after-length-requires
+after-length-requires c κs =
     record {
-      version = take 2 (drop 4 h);
-      random = take 32 (drop 6 h);
-      id = take n (drop 39 h);
-      is = p .is ∙ ap (λ (x : Option Fields). inForm x 19 readExtensions) (session-there h (c .before .before .before .before .if1 .left) n (sym (c .before .before .wide .ensures .0)) (c .before .if2 .left) (c .if3 .left));
-      session-is = session-length h (c .before .before .before .before .if1 .left) n (sym (c .before .before .wide .ensures .0)) (c .if3 .left);
-      inside = omega (arith, (c .before .before .before .before .if1 .left), (c .if3 .left));
-      short = p .short;
+      is = read-fields (c .before .before .before .before .before .before .before .before .before .before .before .args .hello .now) (c .before .before .before .before .before .before .before .before .before .if1 .left) (search needs) (c .before .before .before .before .before .before .if3 .left) (c .before .before .before .before .before .if4 .left) ((c .before .before .before .wide .result) * 65536 + (c .before .be16 .result)) (count (c .before)) (c .if5 .left);
+      short = (c .before .before .before .before .before .before .before .before .before .if1 .left);
     }
 
-returns-4 : tie.Need-returns-4
-returns-4 c = search needs
+returns-6 : tie.Need-returns-6
+returns-6 c = search needs
 
 pub read-fields-spec : {M : Type 1} → statement M
 read-fields-spec =
     tie.close
     (tie.spec
     returns
+    returns-2
+    shared-slice-read-if3
+    returns-3
+    returns-4
     shared-slice-read-wide
     wide-requires
-    returns-2
-    returns-3
-    after-session-requires
-    returns-4)
+    mul-length
+    sub-be16
+    part-be16-start
+    part-be16-end
+    be16-requires
+    cast-length
+    add-length
+    returns-5
+    after-length-requires
+    returns-6)

@@ -1,97 +1,42 @@
--- `read_head` asks the first questions in turn, and goes on to the fields where the three bytes are the length. Assumes nothing.
-use mathlib.Core.Path.{_≡_, sym, _∙_}
-use Prim.Native.Nat.{_+_, _*_}
-use lib.Dec.{lit≤}
-use lib.ListN.{take, drop}
-use Rattle.wire.specs.Numbers.{number}
-use Rattle.wire.proofs.ListLaws.{part-to-end}
-use Rattle.fingerprint.proofs.HeadLaws.{number-three, read-long, read-empty, read-type, read-few, read-other, read-fields}
-use Rattle.fingerprint.proofs.HeadAnswers.{refused-with}
+-- `read_head` goes on from the fields: more than 64 suites are refused. Assumes nothing.
+use mathlib.Core.Path.{subst}
+use Rattle.fingerprint.specs.Code.{FieldsAs, FieldsFound}
+use Rattle.fingerprint.specs.declared.head.Head.{Head}
+use Rattle.fingerprint.proofs.HeadAnswers.{many-suites, head-there, fields-refused}
 use borrow.Author.Needs.{needs}
 use Rattle.fingerprint.proofs.head.read_head.Statement.{statement}
 use Rattle.fingerprint.proofs.head.read_head.Tie as tie
 
-low : (c : tie.After-be16) → number 256 (take 2 (drop 2 (c .before .before .before .before .before .before .before .before .before .before .args .hello .now))) ≡ (c .be16 .result)
-low c = sym (rw (part-to-end (c .before .before .before .before .before .before .before .before .before .before .args .hello .now) 2) at (c .be16 .ensures))
-
-count : (c : tie.After-be16) → number 256 (take 3 (drop 1 (c .before .before .before .before .before .before .before .before .before .before .args .hello .now))) ≡ (c .before .before .wide .result) * 65536 + (c .be16 .result)
-count c = number-three (c .before .before .before .before .before .before .before .before .before .before .args .hello .now) (search needs) ∙ rw (low c, ← (c .before .before .wide .ensures .0))
-
-returns : tie.Need-returns
-returns c = refused-with 16 (c .before .before .args .hello .now) (lit≤ tt, lit≤ tt) (read-long (c .before .before .args .hello .now) (c .if1 .taken))
-
-returns-2 : tie.Need-returns-2
-returns-2 c = refused-with 17 (c .before .before .before .args .hello .now) (lit≤ tt, lit≤ tt) (read-empty (c .before .before .before .args .hello .now) (c .before .if1 .left) (c .if2 .taken))
-
-shared-slice-read-if3 : tie.Need-shared-slice-read-if3
-shared-slice-read-if3 c = search needs
-
-returns-3 : tie.Need-returns-3
-returns-3 c = refused-with 17 (c .before .before .before .before .before .args .hello .now) (lit≤ tt, lit≤ tt) (read-type (c .before .before .before .before .before .args .hello .now) (c .before .before .before .if1 .left) (search needs) (c .if3 .taken))
-
-returns-4 : tie.Need-returns-4
-returns-4 c = refused-with 18 (c .before .before .before .before .before .before .args .hello .now) (lit≤ tt, lit≤ tt) (read-few (c .before .before .before .before .before .before .args .hello .now) (c .before .before .before .before .if1 .left) (search needs) (c .before .if3 .left) (c .if4 .taken))
-
-shared-slice-read-wide : tie.Need-shared-slice-read-wide
-shared-slice-read-wide c = search needs
-
-wide-requires : tie.Need-wide-requires
-wide-requires c κs = search needs
-
-mul-length : tie.Need-mul-length
-mul-length c = search needs
-
-sub-be16 : tie.Need-sub-be16
-sub-be16 c = search needs
-
-part-be16-start : tie.Need-part-be16-start
-part-be16-start c = search needs
-
-part-be16-end : tie.Need-part-be16-end
-part-be16-end c = search needs
-
-be16-requires : tie.Need-be16-requires
-be16-requires c κs = search needs
-
-cast-length : tie.Need-cast-length
-cast-length c = search needs
-
-add-length : tie.Need-add-length
-add-length c = search needs
-
-returns-5 : tie.Need-returns-5
-returns-5 c =
-    refused-with 18 (c .before .before .before .before .before .before .before .before .before .before .before .args .hello .now) (lit≤ tt, lit≤ tt)
-    (read-other (c .before .before .before .before .before .before .before .before .before .before .before .args .hello .now) (c .before .before .before .before .before .before .before .before .before .if1 .left) (search needs) (c .before .before .before .before .before .before .if3 .left) (c .before .before .before .before .before .if4 .left) ((c .before .before .before .wide .result) * 65536 + (c .before .be16 .result)) (count (c .before)) (c .if5 .taken))
+found : (c : tie.After-known-told) → FieldsFound (c .before .before .before .before .before .args .hello .now) (c .before .session .given .0 .0) (c .before .session .given .0 .1 .0) (c .before .session .given .0 .1 .1 .0)
+found c = subst (λ (x : Head). FieldsAs x (c .before .before .before .before .before .args .hello .now)) (c .before .session .given .1) (c .before .before .before .read-fields .ensures)
 
 read-fields-requires : tie.Need-read-fields-requires
-read-fields-requires c κs =
-    record {
-      is = read-fields (c .before .before .before .before .before .before .before .before .before .before .before .args .hello .now) (c .before .before .before .before .before .before .before .before .before .if1 .left) (search needs) (c .before .before .before .before .before .before .if3 .left) (c .before .before .before .before .before .if4 .left) ((c .before .before .before .wide .result) * 65536 + (c .before .be16 .result)) (count (c .before)) (c .if5 .left);
-      short = (c .before .before .before .before .before .before .before .before .before .if1 .left);
-    }
+read-fields-requires c κs = search needs
 
-returns-6 : tie.Need-returns-6
-returns-6 c = search needs
+enum-known-session : tie.Need-enum-known-session
+enum-known-session c = search needs
+
+returns : tie.Need-returns
+returns c = many-suites (found (c .before .before)) (c .if1 .taken)
+
+enum-known-number : tie.Need-enum-known-number
+enum-known-number c = search needs
+
+returns-2 : tie.Need-returns-2
+returns-2 c = head-there (found (c .before .before)) (c .if1 .left)
+
+returns-3 : tie.Need-returns-3
+returns-3 c =
+    fields-refused (c .before .before .before .before .before .args .hello .now) (c .before .number .given .0 .0)
+    (subst (λ (x : Head). FieldsAs x (c .before .before .before .before .before .args .hello .now)) (c .before .number .given .1) (c .before .before .before .read-fields .ensures))
 
 pub read-head-spec : {M : Type 1} → statement M
 read-head-spec =
     tie.close
     (tie.spec
-    returns
-    returns-2
-    shared-slice-read-if3
-    returns-3
-    returns-4
-    shared-slice-read-wide
-    wide-requires
-    mul-length
-    sub-be16
-    part-be16-start
-    part-be16-end
-    be16-requires
-    cast-length
-    add-length
-    returns-5
     read-fields-requires
-    returns-6)
+    enum-known-session
+    returns
+    enum-known-number
+    returns-2
+    returns-3)
