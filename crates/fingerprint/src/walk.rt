@@ -36,7 +36,7 @@ pub enum Step {
 }
 
 // The place in a survey's bodies for each kind of body; the last is for those that are not read.
-fn slot(t: u16) -> usize
+pub fn slot(t: u16) -> usize
     ensures { λ r. ⌜ r ≡ code.slot (kind t) ⌝ }
 {
     match t {
@@ -53,7 +53,7 @@ fn slot(t: u16) -> usize
 
 // The questions of a body, by its kind's place: each goes to its own reader. Question 22 reads all parameter ids, and they are left in
 // the array.
-fn ask_body(place: usize, body: &[u8], ids: &mut [u64; 64]) -> Asked
+pub fn ask_body(place: usize, body: &[u8], ids: &mut [u64; 64]) -> Asked
     requires { ⌜ length (now ids) ≡ 64 ⌝ }
     ensures { λ r. ⌜ BodyAsked (kindAt place) (now (body .entry)) r (now (ids .entry)) (now (ids .exit)) ⌝ }
 {
@@ -70,7 +70,7 @@ fn ask_body(place: usize, body: &[u8], ids: &mut [u64; 64]) -> Asked
 }
 
 // The type is among the first `count`.
-fn among(known: &[u16; 64], count: usize, t: u16) -> bool
+pub fn among(known: &[u16; 64], count: usize, t: u16) -> bool
     requires { ⌜ (count ≤ 64) × (length (now known) ≡ 64) ⌝ }
     ensures { λ r. ⌜ r ≡ member t (take count (now (known .entry))) ⌝ }
 {
@@ -119,7 +119,7 @@ pub fn read_header(hello: &[u8], at: usize) -> Header
 }
 
 // The questions of the extension at a place, after `count` others.
-fn extension(
+pub fn extension(
     hello: &[u8],
     at: usize,
     known: &[u16; 64],

@@ -22,7 +22,7 @@ pub enum Share {
 }
 
 // The count in `width` bytes at the body's front reaches exactly the body's end.
-fn is_whole(body: &[u8], width: usize) -> bool
+pub fn is_whole(body: &[u8], width: usize) -> bool
     requires { ⌜ (1 ≤ width) × (width ≤ 2) ⌝ }
     ensures { λ r. ⌜ r ≡ isWhole width (now (body .entry)) ⌝ }
 {

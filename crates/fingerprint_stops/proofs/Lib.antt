@@ -1,0 +1,11 @@
+pub mod StopLaws
+pub mod Samples
+-- the places
+pub mod LengthLaws
+pub mod PlaceLaws
+-- the code
+pub mod EntryLaws
+pub mod RepeatLaws
+pub mod FieldLaws
+pub mod WalkLaws
+pub mod AnswerLaws

@@ -1,0 +1,6 @@
+pub mod GrammarLaws
+pub mod PartLaws
+-- the definitions alone
+pub mod LineLaws
+-- the code
+pub mod CodeLaws

@@ -1,0 +1,92 @@
+-- The bytes, one by one. Assumes nothing.
+use native.Mathlib.Omega.{arith}
+use denote.Ref.{now}
+use mathlib.Core.Path.{_∙_}
+use Rattle.wire.proofs.ListLaws.{part-to-end}
+use Rattle.hello_lines.proofs.CodeLaws.{one-byte, two-bytes, three-bytes, no-byte}
+use borrow.Author.Needs.{needs}
+use Rattle.hello_lines.proofs.cursor.number.Statement.{statement}
+use Rattle.hello_lines.proofs.cursor.number.Tie as tie
+
+shared-slice-read-wide : tie.Need-shared-slice-read-wide
+shared-slice-read-wide c = search needs
+
+wide-requires : tie.Need-wide-requires
+wide-requires c κs = search needs
+
+returns : tie.Need-returns
+returns c =
+    let s = now (c .before .before .before .before .args .bytes) in
+    (c .wide .ensures .0 ∙ one-byte s (c .before .before .if1 .taken), omega (arith, c .wide .ensures .1))
+
+be16-requires : tie.Need-be16-requires
+be16-requires c κs = search needs
+
+cast-result : tie.Need-cast-result
+cast-result c = search needs
+
+returns-2 : tie.Need-returns-2
+returns-2 c =
+    let s = now (c .before .before .before .before .args .bytes) in
+    (c .be16 .ensures ∙ two-bytes s (c .before .if2 .taken), search needs)
+
+shared-slice-read-wide-2 : tie.Need-shared-slice-read-wide-2
+shared-slice-read-wide-2 c = search needs
+
+wide-requires-2 : tie.Need-wide-requires-2
+wide-requires-2 c κs = search needs
+
+mul-result : tie.Need-mul-result
+mul-result c = search needs
+
+sub-be16 : tie.Need-sub-be16
+sub-be16 c = search needs
+
+part-be16-start : tie.Need-part-be16-start
+part-be16-start c = search needs
+
+part-be16-end : tie.Need-part-be16-end
+part-be16-end c = search needs
+
+be16-requires-2 : tie.Need-be16-requires-2
+be16-requires-2 c κs = search needs
+
+cast-result-2 : tie.Need-cast-result-2
+cast-result-2 c = search needs
+
+add-result : tie.Need-add-result
+add-result c = search needs
+
+returns-3 : tie.Need-returns-3
+returns-3 c =
+    let s = now (c .before .before .before .before .before .before .before .before .args .bytes) in
+    let low = rw (part-to-end s 1) at (c .be162 .ensures) in
+    (rw (c .before .before .wide2 .ensures .0, low) (three-bytes s (c .before .before .before .before .if3 .taken)), search needs)
+
+returns-4 : tie.Need-returns-4
+returns-4 c =
+    let first = c .before .before .if1 in
+    let start = c .before .before .before .before in
+    (no-byte (now (start .args .bytes)) (omega (arith, c .if3 .left, c .before .if2 .left, first .left, start .pre)), search needs)
+
+pub number-spec : {M : Type 1} → statement M
+number-spec =
+    tie.close
+    (tie.spec
+    shared-slice-read-wide
+    wide-requires
+    returns
+    be16-requires
+    cast-result
+    returns-2
+    shared-slice-read-wide-2
+    wide-requires-2
+    mul-result
+    sub-be16
+    part-be16-start
+    part-be16-end
+    be16-requires-2
+    cast-result-2
+    add-result
+    returns-3
+    returns-4)

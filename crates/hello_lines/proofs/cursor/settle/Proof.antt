@@ -1,0 +1,13 @@
+-- The place and the ends stay. Assumes nothing.
+use borrow.Author.Needs.{needs}
+use Rattle.hello_lines.proofs.cursor.settle.Statement.{statement}
+use Rattle.hello_lines.proofs.cursor.settle.Tie as tie
+
+settled-requires : tie.Need-settled-requires
+settled-requires c κs = search needs
+
+returns : tie.Need-returns
+returns c = rw (c .settled .ensures)
+
+pub settle-spec : {M : Type 1} → statement M
+settle-spec = tie.close (tie.spec settled-requires returns)

@@ -1,0 +1,20 @@
+-- The first line, settled. Assumes nothing.
+use denote.Ref.{now}
+use mathlib.Core.Path.{refl}
+use Rattle.hello_lines.specs.Lines.{start}
+use Rattle.hello_lines.proofs.LineLaws.{start-ready}
+use borrow.Author.Needs.{needs}
+use Rattle.hello_lines.proofs.cursor.start.Statement.{statement}
+use Rattle.hello_lines.proofs.cursor.start.Tie as tie
+
+settle-requires : tie.Need-settle-requires
+settle-requires c κs = search needs
+
+returns : tie.Need-returns
+unfolding start
+returns c =
+    let e = c .settle .ensures in
+    (e, rw e (start-ready (now (c .before .before .args .hello))), rw e refl)
+
+pub start-spec : {M : Type 1} → statement M
+start-spec = tie.close (tie.spec settle-requires returns)

@@ -1,0 +1,23 @@
+-- The test, as in `bodyLine`. Assumes nothing.
+use borrow.Author.Tests.{lt-ltb, le-ltb}
+use Rattle.hello_lines.specs.Grammar.{bodyLine}
+use borrow.Author.Needs.{needs}
+use Rattle.hello_lines.proofs.grammar.body_line.Statement.{statement}
+use Rattle.hello_lines.proofs.grammar.body_line.Tie as tie
+
+mul-result : tie.Need-mul-result
+mul-result c = search needs
+
+add-result : tie.Need-add-result
+add-result c = search needs
+
+returns : tie.Need-returns
+unfolding bodyLine
+returns c = simp (lt-ltb _ _ (c .if1 .taken))
+
+returns-2 : tie.Need-returns-2
+unfolding bodyLine
+returns-2 c = simp (le-ltb _ _ (c .if1 .left))
+
+pub body-line-spec : {M : Type 1} → statement M
+body-line-spec = tie.close (tie.spec mul-result add-result returns returns-2)

@@ -1,0 +1,65 @@
+-- `put_in` writes the word at the number's place, or the spare word where the table has no such place. Assumes nothing.
+use mathlib.Core.Path.{sym, _∙_}
+use denote.Ref.{now}
+use borrow.Author.Needs.{needs}
+use Rattle.registries.specs.Registry.{text, word, spareWords}
+use Rattle.registries.proofs.RegistryLaws.{name-there, name-missing}
+use Rattle.registries.proofs.put_in.Statement.{statement}
+use Rattle.registries.proofs.put_in.Tie as tie
+
+place-of-requires : tie.Need-place-of-requires
+place-of-requires c κs = search needs
+
+word-at-requires : tie.Need-word-at-requires
+word-at-requires c κs = search needs
+
+put-text-requires : tie.Need-put-text-requires
+put-text-requires c κs = search needs
+
+slice-aggregate-word-at : tie.Need-slice-aggregate-word-at
+slice-aggregate-word-at c = search needs
+
+word-at-requires-2 : tie.Need-word-at-requires-2
+word-at-requires-2 c κs = search needs
+
+put-text-requires-2 : tie.Need-put-text-requires-2
+put-text-requires-2 c κs = search needs
+
+same-length : tie.Need-same-length
+same-length c = search needs
+
+returns : tie.Need-returns
+unfolding word
+returns c =
+    let args = c .before .before .before .before .before .before .before .before .before .before .args in
+    let place-of = c .before .before .before .before .before .before .place-of in
+    let there = name-there (now (args .numbers)) (now (args .names)) (args .spare) (args .v) (place-of .result) (place-of .ensures .0)
+    (c .before .before .before .before .before .if1 .taken) in
+    rw (there ∙ sym (c .before .before .before .word-at .ensures)) (c .before .before .put-text .ensures)
+
+same-length-2 : tie.Need-same-length-2
+same-length-2 c = search needs
+
+returns-2 : tie.Need-returns-2
+unfolding word spareWords text
+returns-2 c =
+    let args = c .before .before .before .before .before .before .before .before .before .before .before .args in
+    let place-of = c .before .before .before .before .before .before .before .place-of in
+    let missing = name-missing (now (args .numbers)) (now (args .names)) (args .spare) (args .v) (place-of .result) (place-of .ensures .0)
+    (c .before .before .before .before .before .before .if1 .left) in
+    rw (missing ∙ sym (c .before .before .before .word-at2 .ensures)) (c .before .before .put-text2 .ensures)
+
+pub put-in-spec : {M : Type 1} → statement M
+put-in-spec =
+    tie.close
+    (tie.spec
+    place-of-requires
+    word-at-requires
+    put-text-requires
+    slice-aggregate-word-at
+    word-at-requires-2
+    put-text-requires-2
+    same-length
+    returns
+    same-length-2
+    returns-2)
