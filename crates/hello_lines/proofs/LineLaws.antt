@@ -179,7 +179,7 @@ rows-tile h b = all-tile (take most h) (bytes-take most h b)
 
 -- ---- A place lies in exactly one row
 
-tiles-up : (at : ℕ) (rs : List Row) (end : ℕ) → Tiles at rs end → at ≤ end
+pub tiles-up : (at : ℕ) (rs : List Row) (end : ℕ) → Tiles at rs end → at ≤ end
 tiles-up at [] end t = omega (arith, t)
 tiles-up at (r ∷ rs) end (e, f, t) = omega (arith, f, tiles-up (r .end) rs end t)
 

@@ -35,7 +35,7 @@ fn fill_hex(part: &mut [u8], v: u64)
 }
 
 // Writes a space and the number's low digits, so many of them.
-fn put_digits(out: &mut [u8], width: usize, v: u64) -> usize
+pub fn put_digits(out: &mut [u8], width: usize, v: u64) -> usize
     ensures { λ r. ⌜ Written (space ∷ hexDigits width v) r (now (out .entry)) (now (out .exit)) ⌝ }
 {
     if out.len() <= width {

@@ -1,0 +1,50 @@
+-- `listing::line::put_blanks` meets its contract: the blanks stand at the front of 24 of them. Assumes nothing.
+use Prim.Native.Nat.{ℕ, _-_, min}
+use mathlib.Core.Path.{_≡_, ap, _∙_}
+use lib.ListN.{replicate}
+use Rattle.script.specs.Scan.{space}
+use Rattle.script.proofs.ShownLaws.{written-as}
+use Rattle.listing.specs.Text.{blanks}
+use Rattle.listing.proofs.RunLaws.{take-replicate}
+use native.Mathlib.Omega.{arith}
+use borrow.Author.Needs.{needs}
+use Rattle.listing.proofs.line.put_blanks.Statement.{statement}
+use Rattle.listing.proofs.line.put_blanks.Tie as tie
+
+up-to-24-requires : tie.Need-up-to-24-requires
+up-to-24-requires c κs = search needs
+
+sub-put-text : tie.Need-sub-put-text
+sub-put-text c = search needs
+
+part-put-text-start : tie.Need-part-put-text-start
+part-put-text-start c = search needs
+
+part-put-text-end : tie.Need-part-put-text-end
+part-put-text-end c = search needs
+
+put-text-requires : tie.Need-put-text-requires
+put-text-requires c κs = search needs
+
+same-length : tie.Need-same-length
+same-length c = search needs
+
+returns : tie.Need-returns
+unfolding blanks
+returns c =
+    let k = c .before .before .before .before .before .before .up-to-24 in
+    let same : k .result - 0 ≡ min (c .before .before .before .before .before .before .before .before .args .n) 24 = omega (arith, k .ensures .0) in
+    let front = take-replicate space (k .result - 0) 24 (omega (arith, k .ensures .1)) in
+    written-as _ _ _ _ _ (front ∙ ap (λ (n : ℕ). replicate n space) same) (c .before .before .put-text .ensures)
+
+pub put-blanks-spec : {M : Type 1} → statement M
+put-blanks-spec =
+    tie.close
+    (tie.spec
+    up-to-24-requires
+    sub-put-text
+    part-put-text-start
+    part-put-text-end
+    put-text-requires
+    same-length
+    returns)

@@ -1,0 +1,99 @@
+-- `listing::put_lines` meets its contract: the lines so far stand in the output, and the others begin at the cursor. Assumes nothing.
+use Prim.Native.Nat.{_-_, _≤_, zero-le}
+use mathlib.Core.Path.{_≡_, refl}
+use lib.ListN.{length}
+use Rattle.hello_lines.specs.Lines.{Ready}
+use Rattle.listing.specs.Text.{stopFrom}
+use Rattle.listing.proofs.LineLaws.{Going, going-none, going-more, going-ended}
+use native.Mathlib.Omega.{arith}
+use borrow.Author.Needs.{needs}
+use Rattle.listing.proofs.put_lines.Statement.{statement}
+use Rattle.listing.proofs.put_lines.Tie as tie
+
+abbrev Inv-loop : tie.InvT-loop
+Inv-loop out₀ hello number place c₀ used₀ out c used =
+    Ready (length hello) c × (used ≤ length out) × (length out ≡ length out₀) × Going hello (stopFrom number place) c used out₀ out
+
+abbrev μ-loop : tie.MeasureT-loop
+μ-loop out₀ hello number place c₀ used₀ out c used =
+    length hello - c .at
+
+start-requires : tie.Need-start-requires Inv-loop μ-loop
+start-requires c κs = search needs
+
+loop-holds : tie.Need-loop-holds Inv-loop μ-loop
+loop-holds c =
+    let args = c .before .before .before .args in
+    let first = c .start .ensures in
+    let stop = stopFrom (args .number) (args .place) in
+    (first .1, zero-le, refl, going-none (args .hello .now) stop (c .start .result) (args .out .now) (first .0))
+
+line-at-requires : tie.Need-line-at-requires Inv-loop μ-loop
+line-at-requires c κs = (omega (arith, (c .before .before .before .before .before .before .pre)), (c .before .before .loop) .inv .0, (c .if1) .taken)
+
+sub-put-line : tie.Need-sub-put-line Inv-loop μ-loop
+sub-put-line c = search needs
+
+part-put-line-start : tie.Need-part-put-line-start Inv-loop μ-loop
+part-put-line-start c = search needs
+
+part-put-line-end : tie.Need-part-put-line-end Inv-loop μ-loop
+part-put-line-end c = search needs
+
+put-line-requires : tie.Need-put-line-requires Inv-loop μ-loop
+put-line-requires c κs = ((c .before .before .before .before .before .before .before .before .pre), (c .before .before .before .before .loop) .inv .0, (c .before .line-at) .ensures .1)
+
+add-used : tie.Need-add-used Inv-loop μ-loop
+add-used c = search needs
+
+next-requires : tie.Need-next-requires Inv-loop μ-loop
+next-requires c κs =
+    let line = c .before .before .before .before .line-at .ensures in
+    (omega (arith, (c .before .before .before .before .before .before .before .before .before .before .before .pre)), (c .before .before .before .before .before .before .before .loop) .inv .0, (c .before .before .before .before .before .if1) .taken, line .0, line .1)
+
+loop-less : tie.Need-loop-less Inv-loop μ-loop
+loop-less c = search needs
+
+loop-again : tie.Need-loop-again Inv-loop μ-loop
+loop-again c =
+    let args = c .before .before .before .before .before .before .before .before .before .before .before .before .args in
+    let l = c .before .before .before .before .before .before .before .before .loop in
+    let line = c .before .before .before .before .before .line-at in
+    let after = c .next in
+    let w = (c .before .before .before .put-line) in (
+      after .ensures .1,
+      search needs,
+      search needs,
+      going-more (args .hello .now) (stopFrom (args .number) (args .place)) (l .c) (after .result) (line .result) (l .used) (w .result) _
+          (args .out .now) (l .out) (w .last .0) (c .before .before .before .before .before .before .if1 .taken) (line .ensures .0) (after .ensures .0) (after .ensures .2) (l .inv .3) refl
+          (w .ensures),
+    )
+
+same-length : tie.Need-same-length Inv-loop μ-loop
+same-length c = search needs
+
+returns : tie.Need-returns Inv-loop μ-loop
+returns c =
+    let args = c .before .before .before .before .before .before .args in
+    let l = c .before .before .loop in
+    going-ended (args .hello .now) (stopFrom (args .number) (args .place)) (l .c) (l .used) (args .out .now) (l .out) (c .if1 .left) (l .inv .3)
+
+pub put-lines-spec : {M : Type 1} → statement M
+put-lines-spec =
+    tie.close
+    (tie.spec
+    Inv-loop
+    μ-loop
+    start-requires
+    loop-holds
+    line-at-requires
+    sub-put-line
+    part-put-line-start
+    part-put-line-end
+    put-line-requires
+    add-used
+    next-requires
+    loop-less
+    loop-again
+    same-length
+    returns)
