@@ -12,11 +12,17 @@ ghost use Rattle.reports.specs.Lines.{nameAnswer, setText};
 ghost use lib.ListN.{length};
 ghost use Rattle.answers.specs.Said.{plain, hands, plainly, handing, Says, Hands};
 ghost use Rattle.answers.specs.Answers.{sizeParts, writeParts, readParts, makeParts, joinParts, framesParts, splitParts, splitting, reportAnswer, alikeParts};
+ghost use Rattle.answers.specs.Listings.{Shows, ShowsFrames};
 use fingerprint::reading::extension_set;
 use fingerprint::reading::name_or;
 use fingerprint::reading::parse_clienthello;
+use fingerprint_stops::stopped_at;
+use frame_listing::put_frame_listing;
 use frames::cutting::Cut;
 use frames::joining::Joined;
+use frames::joining::LIMIT;
+use frames::joining::joiner_stopped_at;
+use listing::put_listing;
 use records::Next;
 use reports::put_name_answer;
 use reports::put_report;
@@ -28,6 +34,7 @@ use script::writing::put_number_and_two;
 use script::writing::put_text;
 use script::writing::put_two_numbers;
 use script::writing::put_two_numbers_and_bytes;
+use stops::Stop;
 use tls::Made;
 use varint::Got;
 use varint::Width;
@@ -219,4 +226,31 @@ pub fn say_alike(a: &[u8], b: &[u8], out: &mut [u8]) -> Said
         return Said::Answer(put_text(out, b"yes"));
     }
     Said::Answer(put_text(out, b"no"))
+}
+
+// show HELLO
+pub fn say_show(hello: &[u8], out: &mut [u8]) -> Said
+    ensures { λ r. ⌜ Shows (now (hello .entry)) r (now (out .entry)) (now (out .exit)) ⌝ }
+{
+    match stopped_at(hello) {
+        Stop::Nowhere => Said::Answer(put_listing(out, hello, 0, 0)),
+        Stop::At(number, place) => Said::Answer(put_listing(out, hello, number, place)),
+    }
+}
+
+// The joiner's buffers, as short as it takes. As a call of its own an array costs the proof of its user nothing.
+fn joiner_room() -> [u8; LIMIT] {
+    [0u8; LIMIT]
+}
+
+// show-frames FRAMES
+pub fn say_show_frames(frames: &[u8], out: &mut [u8]) -> Said
+    ensures { λ r. ⌜ ShowsFrames (now (frames .entry)) r (now (out .entry)) (now (out .exit)) ⌝ }
+{
+    let mut buffer = joiner_room();
+    let mut marks = joiner_room();
+    match joiner_stopped_at(frames, &mut buffer, &mut marks) {
+        Stop::Nowhere => Said::Answer(put_frame_listing(out, frames, 0, 0)),
+        Stop::At(number, place) => Said::Answer(put_frame_listing(out, frames, number, place)),
+    }
 }

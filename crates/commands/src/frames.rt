@@ -1,4 +1,4 @@
-// The commands for frames and records: join, frames, split. Each operand is read into a buffer of its own.
+// The commands for frames and records: join, show-frames, frames, split. Each operand is read into a buffer of its own.
 ghost use Prim.Native.Nat.{_≤_};
 ghost use lib.ListN.{length};
 ghost use Rattle.commands.specs.Bounds.{Fits};
@@ -52,6 +52,20 @@ fn join_onto(
     let mut marks = room();
     match read_operand(word_at(line, 3), &last[0..kept], &mut marks) {
         Operand::Bytes(n) => answers::say_join(frames, buffer, &mut marks[0..n], last, out),
+        Operand::Unread(fault) => Said::Error(fault),
+    }
+}
+
+// show-frames FRAMES
+pub fn show_frames(line: &[u8], last: &[u8], out: &mut [u8]) -> Said
+    ensures { λ r. ⌜ Fits 0 0 (length (now (out .entry))) r ⌝ }
+{
+    if !has_operands(line, 1) {
+        return Said::Error(Fault::Count);
+    }
+    let mut frames = room();
+    match read_operand(word_at(line, 1), last, &mut frames) {
+        Operand::Bytes(n) => answers::say_show_frames(&frames[0..n], out),
         Operand::Unread(fault) => Said::Error(fault),
     }
 }

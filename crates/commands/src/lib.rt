@@ -40,8 +40,23 @@ pub fn command(line: &[u8], last: &mut [u8], kept: usize, out: &mut [u8]) -> Sai
     if check::same(name, b"split") {
         return frames::split(line, last, kept, out);
     }
+    if check::same(name, b"show-frames") {
+        return frames::show_frames(line, &last[0..kept], out);
+    }
+    reader_command(line, last, kept, out)
+}
+
+// Answers a line whose command is one of the reader's, or none.
+fn reader_command(line: &[u8], last: &mut [u8], kept: usize, out: &mut [u8]) -> Said
+    requires { ⌜ kept ≤ length (now last) ⌝ }
+    ensures { λ r. ⌜ Fits kept (length (now (last .entry))) (length (now (out .entry))) r ⌝ }
+{
+    let name = word_at(line, 0);
     if check::same(name, b"report") {
         return reader::report(line, &last[0..kept], out);
+    }
+    if check::same(name, b"show") {
+        return reader::show(line, &last[0..kept], out);
     }
     if check::same(name, b"name") {
         return reader::name(line, last, kept, out);

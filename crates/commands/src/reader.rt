@@ -1,4 +1,4 @@
-// The commands of the reader: report, name, set; and alike, which reads two hellos.
+// The commands of the reader: report, show, name, set; and alike, which reads two hellos.
 ghost use Prim.Native.Nat.{_≤_};
 ghost use lib.ListN.{length};
 ghost use Rattle.commands.specs.Bounds.{Fits};
@@ -20,6 +20,20 @@ pub fn report(line: &[u8], last: &[u8], out: &mut [u8]) -> Said
     let mut hello = room();
     match read_operand(word_at(line, 1), last, &mut hello) {
         Operand::Bytes(n) => answers::say_report(&hello[0..n], out),
+        Operand::Unread(fault) => Said::Error(fault),
+    }
+}
+
+// show HELLO
+pub fn show(line: &[u8], last: &[u8], out: &mut [u8]) -> Said
+    ensures { λ r. ⌜ Fits 0 0 (length (now (out .entry))) r ⌝ }
+{
+    if !has_operands(line, 1) {
+        return Said::Error(Fault::Count);
+    }
+    let mut hello = room();
+    match read_operand(word_at(line, 1), last, &mut hello) {
+        Operand::Bytes(n) => answers::say_show(&hello[0..n], out),
         Operand::Unread(fault) => Said::Error(fault),
     }
 }

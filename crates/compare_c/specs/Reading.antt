@@ -1,12 +1,14 @@
 -- What compare/ asks of the reader, as single 64-bit numbers.
-use Prim.Native.Nat.{ℕ, _+_, _%_, _^_}
+use Prim.Native.Nat.{ℕ, _+_, _*_, _%_, _^_}
 use mathlib.Core.Path.{_≡_}
 use mathlib.Core.Bool.{cond}
 use mathlib.Core.List.{List}
+use mathlib.Core.Option.{Option, none, some}
 use lib.ListN.{length, getD}
 use lib.Dec.{leb}
 use Rattle.wire.specs.Answer.{Answer, result, refused}
 use Rattle.wire.specs.Front.{front}
+use Rattle.stops.specs.Stops.{Stopped}
 use Rattle.script.specs.Answers.{fittedAll}
 use Rattle.fingerprint_lists.specs.Arrays.{extType, group, span}
 use Rattle.fingerprint.specs.ClientHello.{ClientHello}
@@ -25,6 +27,11 @@ pub record ReportCoded (answer : Answer ClientHello) (old : List ℕ) (r : ℕ) 
 pub record TextCoded (parts : List (List ℕ)) (old : List ℕ) (r : ℕ) (new : List ℕ) : Type 0 where
   pub is : r ≡ length (fittedAll parts (length old))
   pub output : new ≡ front (fittedAll parts (length old)) old
+
+-- 2^32 times the number at which the reader stops, plus the place; 0 where it accepts
+abbrev pub codedStop : Option Stopped → ℕ
+codedStop none = 0
+codedStop (some s) = 2 ^ 32 * s .number + s .place
 
 -- modulo 2^64
 abbrev pub added : ℕ → ℕ → ℕ

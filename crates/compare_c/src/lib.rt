@@ -7,13 +7,15 @@ ghost use Rattle.records.specs.Records.{recordAt};
 ghost use Rattle.fingerprint.specs.Reader.{read};
 ghost use Rattle.fingerprint.specs.Calls.{extensionSet};
 ghost use Rattle.fingerprint.specs.Report.{parsedOf};
+ghost use Rattle.fingerprint_stops.specs.Stops.{stoppedAt};
 ghost use Rattle.reports.specs.Lines.{setText};
 ghost use Rattle.compare_c.specs.Sums.{codedValue, codedWidth, sumOf, PutCoded};
 ghost use Rattle.crustdelta_c.specs.Calls.{MakeCoded};
 ghost use Rattle.compare_c.specs.Calls.{drawnOf, codedNext, PartCoded};
-ghost use Rattle.compare_c.specs.Reading.{added, pickedOf, ReportCoded, TextCoded};
+ghost use Rattle.compare_c.specs.Reading.{codedStop, added, pickedOf, ReportCoded, TextCoded};
 use answers::Said;
 use records::Next;
+use stops::Stop;
 use tls::Made;
 use varint::Got;
 use varint::Width;
@@ -146,6 +148,17 @@ pub extern "C" fn compare_set(hello: &[u8], out: &mut [u8]) -> u64
         Said::Handed(n, _) => n as u64,
         Said::Refused(n, _) => n as u64,
         Said::Error(_) => 0,
+    }
+}
+
+// Where the reader stops: 2^32 times the number, plus the place; 0 where the hello is accepted.
+#[no_mangle]
+pub extern "C" fn compare_stopped(hello: &[u8]) -> u64
+    ensures { λ r. ⌜ r ≡ codedStop (stoppedAt (now (hello .entry))) ⌝ }
+{
+    match fingerprint_stops::stopped_at(hello) {
+        Stop::Nowhere => 0,
+        Stop::At(number, place) => 4294967296 * number + place as u64,
     }
 }
 

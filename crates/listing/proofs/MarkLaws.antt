@@ -13,7 +13,7 @@ use Rattle.hello_lines.specs.Lines.{Row, most, rows, Tiles, countHolding}
 use Rattle.hello_lines.proofs.LineLaws.{rows-tile, one-holds}
 use Rattle.listing.specs.Text.{lastRow, allRows, countMarked}
 
-tiles-more : (at : ℕ) (rs : List Row) (end : ℕ) (r : Row) → Tiles at rs end → r .at ≡ end → end < r .end
+pub tiles-more : (at : ℕ) (rs : List Row) (end : ℕ) (r : Row) → Tiles at rs end → r .at ≡ end → end < r .end
     → Tiles at (rs ++ (r ∷ [])) (r .end)
 tiles-more at [] end r t e f = (e ∙ sym t, omega (arith, t), refl)
 tiles-more at (q ∷ rs) end r (a, b, t) e f = (a, b, tiles-more (q .end) rs end r t e f)

@@ -41,11 +41,11 @@ pub fn is_marked(number: u64, place: usize, at: usize, end: usize) -> bool
     place < end
 }
 
-// Writes a line's mark or none, its place and its bytes.
-fn put_front(out: &mut [u8], marked: bool, at: usize, bytes: &[u8]) -> usize
-    ensures { λ r. ⌜ WrittenAll (frontParts marked 4 at (now (bytes .entry))) r (now (out .entry)) (now (out .exit)) ⌝ }
+// Writes a line's mark or none, its place in so many digits and its bytes.
+pub fn put_front(out: &mut [u8], marked: bool, width: usize, at: usize, bytes: &[u8]) -> usize
+    ensures { λ r. ⌜ WrittenAll (frontParts marked width at (now (bytes .entry))) r (now (out .entry)) (now (out .exit)) ⌝ }
 {
-    let n = put_place(out, marked, 4, at);
+    let n = put_place(out, marked, width, at);
     n + put_run(&mut out[n..], bytes)
 }
 
@@ -58,7 +58,7 @@ fn put_line(out: &mut [u8], hello: &[u8], c: Cursor, line: Line, number: u64, pl
     let end = line.end;
     let limit = part_end(hello, c);
     let marked = is_marked(number, place, at, end);
-    let n = put_front(out, marked, at, &hello[at..end]);
+    let n = put_front(out, marked, 4, at, &hello[at..end]);
     let m = n + put_words(&mut out[n..], c.what, &hello[at..end], line);
     if marked {
         return m
@@ -91,7 +91,7 @@ fn put_end(out: &mut [u8], hello: &[u8], at: usize, number: u64, place: usize) -
         said: 0,
     };
     let marked = is_marked(number, place, at, length + 1);
-    let n = put_front(out, marked, at, &hello[at..]);
+    let n = put_front(out, marked, 4, at, &hello[at..]);
     let m = n + put_words(&mut out[n..], last_what(at, length), &hello[at..], line);
     if marked {
         return m + put_reason(&mut out[m..], number, length, END, &hello[at..], line, 0);

@@ -14,22 +14,27 @@ ghost use Prim.Native.Nat.{_≤_};
 ghost use lib.ListN.{length};
 ghost use Rattle.runner.specs.Bounds.{Turned};
 
-// The script language allows a line of 524,288 bytes and an operand of 131,072. What is handed back is no longer than an operand, and the
-// longest answer has two operands in hex, with words around them.
+// The script language allows a line of 524,288 bytes and an operand of 131,072. What is handed back is no longer than an operand. The
+// longest answers are listings: a line has up to some 110 bytes, and 16,384 bytes of a hello have at most 8,192 lines.
 const CHUNK: usize = 65536;
 
 const LINE: usize = 524288;
 
 const LAST: usize = 131072;
 
-const ANSWER: usize = 524544;
+const ANSWER: usize = 1048576;
+
+// The buffer of an answer. As a call of its own it costs the proof of its user nothing, where the array itself would.
+fn answer_room() -> [u8; ANSWER] {
+    [0u8; ANSWER]
+}
 
 // Answers every line of the script that the descriptor gives; with notes, which begin with `#`, where they are asked for.
 pub fn run(fd: i32, notes: bool) {
     let mut chunk = [0u8; CHUNK];
     let mut line = [0u8; LINE];
     let mut last = [0u8; LAST];
-    let mut out = [0u8; ANSWER];
+    let mut out = answer_room();
     answer_all(fd, notes, &mut chunk, &mut line, &mut last, &mut out);
 }
 

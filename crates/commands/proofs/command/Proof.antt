@@ -165,17 +165,17 @@ slice-aggregate-same-8 c = search needs
 same-requires-8 : tie.Need-same-requires-8
 same-requires-8 c κs = search needs
 
-sub-report : tie.Need-sub-report
-sub-report c = search needs
+sub-show-frames : tie.Need-sub-show-frames
+sub-show-frames c = search needs
 
-part-report-start : tie.Need-part-report-start
-part-report-start c = search needs
+part-show-frames-start : tie.Need-part-show-frames-start
+part-show-frames-start c = search needs
 
-part-report-end : tie.Need-part-report-end
-part-report-end c = omega (arith, c .before .before .before .before .before .before .before .before .before .before .before .before .before .before .before .before .before .before .before .before .before .before .before .before .before .before .before .before .before .pre)
+part-show-frames-end : tie.Need-part-show-frames-end
+part-show-frames-end c = omega (arith, c .before .before .before .before .before .before .before .before .before .before .before .before .before .before .before .before .before .before .before .before .before .before .before .before .before .before .before .before .before .pre)
 
-report-requires : tie.Need-report-requires
-report-requires c κs = search needs
+show-frames-requires : tie.Need-show-frames-requires
+show-frames-requires c κs = search needs
 
 same-length-14 : tie.Need-same-length-14
 same-length-14 c = search needs
@@ -186,17 +186,11 @@ same-length-15 c = search needs
 returns-8 : tie.Need-returns-8
 returns-8 c =
     let pre = c .before .before .before .before .before .before .before .before .before .before .before .before .before .before .before .before .before .before .before .before .before .before .before .before .before .before .before .before .before .before .before .before .before .before .pre in
-    let report = c .before .before .report in
-    wider _ _ _ _ _ (omega (arith, pre)) (le-refl _) (report .ensures)
+    let show-frames = c .before .before .show-frames in
+    wider _ _ _ _ _ (omega (arith, pre)) (le-refl _) (show-frames .ensures)
 
-slice-aggregate-same-9 : tie.Need-slice-aggregate-same-9
-slice-aggregate-same-9 c = search needs
-
-same-requires-9 : tie.Need-same-requires-9
-same-requires-9 c κs = search needs
-
-name-requires : tie.Need-name-requires
-name-requires c κs = omega (arith, c .before .before .before .before .before .before .before .before .before .before .before .before .before .before .before .before .before .before .before .before .before .before .before .before .before .before .before .before .before .before .before .before .before .pre)
+reader-command-requires : tie.Need-reader-command-requires
+reader-command-requires c κs = omega (arith, c .before .before .before .before .before .before .before .before .before .before .before .before .before .before .before .before .before .before .before .before .before .before .before .before .before .before .before .before .before .before .pre)
 
 same-length-16 : tie.Need-same-length-16
 same-length-16 c = search needs
@@ -206,69 +200,6 @@ same-length-17 c = search needs
 
 returns-9 : tie.Need-returns-9
 returns-9 c = search needs
-
-slice-aggregate-same-10 : tie.Need-slice-aggregate-same-10
-slice-aggregate-same-10 c = search needs
-
-same-requires-10 : tie.Need-same-requires-10
-same-requires-10 c κs = search needs
-
-sub-set : tie.Need-sub-set
-sub-set c = search needs
-
-part-set-start : tie.Need-part-set-start
-part-set-start c = search needs
-
-part-set-end : tie.Need-part-set-end
-part-set-end c = omega (arith, c .before .before .before .before .before .before .before .before .before .before .before .before .before .before .before .before .before .before .before .before .before .before .before .before .before .before .before .before .before .before .before .before .before .before .before .pre)
-
-set-requires : tie.Need-set-requires
-set-requires c κs = search needs
-
-same-length-18 : tie.Need-same-length-18
-same-length-18 c = search needs
-
-same-length-19 : tie.Need-same-length-19
-same-length-19 c = search needs
-
-returns-10 : tie.Need-returns-10
-returns-10 c =
-    let pre = c .before .before .before .before .before .before .before .before .before .before .before .before .before .before .before .before .before .before .before .before .before .before .before .before .before .before .before .before .before .before .before .before .before .before .before .before .before .before .before .before .pre in
-    let set = c .before .before .set in
-    wider _ _ _ _ _ (omega (arith, pre)) (le-refl _) (set .ensures)
-
-slice-aggregate-same-11 : tie.Need-slice-aggregate-same-11
-slice-aggregate-same-11 c = search needs
-
-same-requires-11 : tie.Need-same-requires-11
-same-requires-11 c κs = search needs
-
-sub-alike : tie.Need-sub-alike
-sub-alike c = search needs
-
-part-alike-start : tie.Need-part-alike-start
-part-alike-start c = search needs
-
-part-alike-end : tie.Need-part-alike-end
-part-alike-end c = omega (arith, c .before .before .before .before .before .before .before .before .before .before .before .before .before .before .before .before .before .before .before .before .before .before .before .before .before .before .before .before .before .before .before .before .before .before .before .before .before .before .pre)
-
-alike-requires : tie.Need-alike-requires
-alike-requires c κs = search needs
-
-same-length-20 : tie.Need-same-length-20
-same-length-20 c = search needs
-
-same-length-21 : tie.Need-same-length-21
-same-length-21 c = search needs
-
-returns-11 : tie.Need-returns-11
-returns-11 c =
-    let pre = c .before .before .before .before .before .before .before .before .before .before .before .before .before .before .before .before .before .before .before .before .before .before .before .before .before .before .before .before .before .before .before .before .before .before .before .before .before .before .before .before .before .before .before .pre in
-    let alike = c .before .before .alike in
-    wider _ _ _ _ _ (omega (arith, pre)) (le-refl _) (alike .ensures)
-
-returns-12 : tie.Need-returns-12
-returns-12 c = record { text = omega arith; held = omega (arith, c .before .before .before .before .before .before .before .before .before .before .before .before .before .before .before .before .before .before .before .before .before .before .before .before .before .before .before .before .before .before .before .before .before .before .before .before .before .pre) }
 
 pub command-spec : {M : Type 1} → statement M
 command-spec =
@@ -324,35 +255,14 @@ command-spec =
     returns-7
     slice-aggregate-same-8
     same-requires-8
-    sub-report
-    part-report-start
-    part-report-end
-    report-requires
+    sub-show-frames
+    part-show-frames-start
+    part-show-frames-end
+    show-frames-requires
     same-length-14
     same-length-15
     returns-8
-    slice-aggregate-same-9
-    same-requires-9
-    name-requires
+    reader-command-requires
     same-length-16
     same-length-17
-    returns-9
-    slice-aggregate-same-10
-    same-requires-10
-    sub-set
-    part-set-start
-    part-set-end
-    set-requires
-    same-length-18
-    same-length-19
-    returns-10
-    slice-aggregate-same-11
-    same-requires-11
-    sub-alike
-    part-alike-start
-    part-alike-end
-    alike-requires
-    same-length-20
-    same-length-21
-    returns-11
-    returns-12)
+    returns-9)

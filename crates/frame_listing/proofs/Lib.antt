@@ -1,0 +1,3 @@
+pub mod TurnLaws
+-- the definitions alone
+pub mod FrameLaws
