@@ -94,6 +94,13 @@ fn text_by(call: archive::Text, hello: &[u8], room: usize) -> Result<String, u64
     Ok(String::from_utf8_lossy(&out[..length as usize]).into_owned())
 }
 
+/// The number at which the reader stops, and the place; `None` where the hello is accepted.
+pub(crate) fn stopped(hello: &[u8]) -> Option<(u64, u64)> {
+    // SAFETY: pointer and length are those of one slice, which the call reads.
+    let coded = unsafe { archive::compare_stopped(hello.as_ptr(), hello.len()) };
+    (coded != 0).then_some((coded / REFUSED, coded % REFUSED))
+}
+
 /// The sum of one place of each list of the report, which is built whole: something to time.
 pub(crate) fn picked(hello: &[u8], place: usize) -> u64 {
     // SAFETY: pointer and length are those of one slice, which the call reads.

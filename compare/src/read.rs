@@ -13,10 +13,12 @@ pub(crate) mod layout;
 pub(crate) mod lengths;
 mod many;
 mod parting;
+mod place;
 mod question;
 pub(crate) mod report;
 mod sample;
 mod seen;
+pub(crate) mod stopped;
 mod text;
 mod timing;
 mod worst;
@@ -31,6 +33,7 @@ use crate::random::Random;
 use crate::sides::Sides;
 use crate::tally::Tally;
 use question::Question;
+use stopped::Stops;
 
 const SEED: u64 = 0x7265_6164_6865_6c6c;
 /// Hellos that the original made, and such as were put together by chance.
@@ -57,23 +60,25 @@ pub(crate) fn compare(tally: &mut Tally, greetings: &[Greeting]) {
             hello: chance::hello(room, &mut random),
         }
     });
-    parting::check(tally);
+    let mut stops = Stops::new();
+    parting::check(tally, &mut stops);
     captures::check(tally, greetings);
-    check_damaged(tally, &mut random);
+    check_damaged(tally, &mut stops, &mut random);
+    stops.print("damaged");
 }
 
 /// Hellos that the driver's own reader knows the answer to.
-fn check_damaged(tally: &mut Tally, random: &mut Random) {
+fn check_damaged(tally: &mut Tally, stops: &mut Stops, random: &mut Random) {
     let whole = whole(random);
     for hello in whole.iter().chain(&counts::hellos()) {
-        check_by_law(tally, hello.clone());
+        check_by_law(tally, stops, hello.clone());
     }
     for damaged in whole.iter().flat_map(|hello| damage::all(hello)) {
-        check_by_law(tally, damaged);
+        check_by_law(tally, stops, damaged);
     }
     for _ in 0..CHANGES {
         let hello = &whole[random.below(whole.len())];
-        check_by_law(tally, damage::change(hello, random));
+        check_by_law(tally, stops, damage::change(hello, random));
     }
 }
 
@@ -87,7 +92,8 @@ fn whole(random: &mut Random) -> Vec<Vec<u8>> {
     whole
 }
 
-fn check_by_law(tally: &mut Tally, hello: Vec<u8>) {
+fn check_by_law(tally: &mut Tally, stops: &mut Stops, hello: Vec<u8>) {
+    stops.check(tally, &hello);
     let question = Question { hello };
     let known = question.texts_by_law();
     tally.expect(&question, "ours", &known, &question.texts_by_ours());

@@ -15,8 +15,10 @@ mod met;
 mod read;
 
 use crate::captures::{Capture, Greeting};
+use crate::join::LIMIT;
 use crate::random::Random;
 use crate::read::law;
+use crate::read::stopped::Stops;
 use crate::tally::Tally;
 use input::{Asked, Input};
 use met::Met;
@@ -27,6 +29,9 @@ use std::time::{Duration, Instant};
 pub(crate) const SEED: u64 = 0x6372_7573_7464_0001;
 /// Inputs, none of them twice. A hello that is put to the reader and to the reporter is one.
 const INPUTS: u64 = 1_000_000;
+/// Hellos up to this length, and those too long to be read, are also asked where they stop. What the driver does to find the
+/// place in a long list takes too long to be done for all.
+const SHORT: usize = 2_000;
 /// How often a line says how far it is.
 const BETWEEN_LINES: Duration = Duration::from_secs(5);
 
@@ -52,6 +57,7 @@ pub(crate) fn compare(tally: &mut Tally, seed: u64, captures: &[Capture], greeti
         number: 0,
         seen: HashSet::new(),
         met: Met::default(),
+        stops: Stops::new(),
         asked: Asked::new(),
     };
     let mut said = Instant::now();
@@ -65,6 +71,7 @@ pub(crate) fn compare(tally: &mut Tally, seed: u64, captures: &[Capture], greeti
     }
     scale.say_how_far();
     scale.met.print();
+    scale.stops.print("scale");
 }
 
 struct Scale<'a> {
@@ -75,6 +82,7 @@ struct Scale<'a> {
     /// A hash of each input so far.
     seen: HashSet<u64>,
     met: Met,
+    stops: Stops,
     asked: Asked,
 }
 
@@ -91,14 +99,21 @@ impl Scale<'_> {
         };
     }
 
-    /// One hello for two calls, the report and the number alone.
+    /// One hello for the report, for the number alone, and for where the reader stops.
     fn ask_hello(&mut self, real: &Real, random: &mut Random) -> bool {
         let (read, report) = read::draw(real, random);
         let new = self.ask(&report, random);
         if new {
             self.answer(&read, random);
+            self.ask_stop(&read.hello);
         }
         new
+    }
+
+    fn ask_stop(&mut self, hello: &[u8]) {
+        if hello.len() <= SHORT || LIMIT < hello.len() {
+            self.stops.check(self.tally, hello);
+        }
     }
 
     /// Whether the input was a new one.

@@ -32,6 +32,7 @@ extern "C" {
         out: *mut u8,
         out_len: usize,
     ) -> u64;
+    pub(super) fn compare_stopped(hello: *const u8, hello_len: usize) -> u64;
     pub(super) fn compare_picked(hello: *const u8, hello_len: usize, place: usize) -> u64;
     pub(super) fn compare_next(blob: *const u8, blob_len: usize, place: usize) -> u64;
     pub(super) fn compare_record(

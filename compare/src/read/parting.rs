@@ -7,6 +7,7 @@ use super::many::many;
 use super::question::{refused, Question};
 use super::report::Numbers;
 use super::seen::Seen;
+use super::stopped::Stops;
 use crate::join::LIMIT;
 use crate::script::hex;
 use crate::tally::Tally;
@@ -39,7 +40,7 @@ impl Parting {
     }
 }
 
-pub(super) fn check(tally: &mut Tally) {
+pub(super) fn check(tally: &mut Tally, stops: &mut Stops) {
     for list in [ends(), fields(), many_suites(), blocks(), bodies(), many()] {
         for Parting {
             hello,
@@ -47,6 +48,7 @@ pub(super) fn check(tally: &mut Tally) {
             rust,
         } in list
         {
+            stops.check(tally, &hello);
             let question = Question::new(&hello);
             let known = refused(number);
             tally.expect(&question, "ours", &known, &question.texts_by_ours());

@@ -17,7 +17,7 @@ const TOO_SHORT: u64 = 100;
 
 #[derive(Hash)]
 pub(super) struct Read {
-    hello: Rc<[u8]>,
+    pub(super) hello: Rc<[u8]>,
 }
 
 #[derive(Hash)]
