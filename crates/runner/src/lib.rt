@@ -38,6 +38,13 @@ pub fn run(fd: i32, notes: bool) {
     answer_all(fd, notes, &mut chunk, &mut line, &mut last, &mut out);
 }
 
+// Answers one line, with notes.
+pub fn run_line(line: &[u8]) {
+    let mut last = [0u8; LAST];
+    let mut out = answer_room();
+    answer(line, 1, false, true, &mut last, 0, &mut out);
+}
+
 // Where the run stands: in its input, and how many bytes `last` holds.
 pub struct Standing {
     pub input: Input,
