@@ -11,6 +11,7 @@ use frames::reading::FrameRead;
 use frames::reading::read_frame;
 use listing::is_marked;
 use listing::line::put_bytes_of;
+use listing::line::put_some;
 use listing::put_front;
 use listing::put_verdict;
 use script::writing::put_number;
@@ -78,17 +79,17 @@ fn put_question(out: &mut [u8], number: u64) -> usize
     ensures { λ r. ⌜ Wrote r (now (out .entry)) (now (out .exit)) ⌝ }
 {
     match number {
-        11 => put_text(
+        11 => put_some(
             out,
             b"this type is not known: 00 PADDING, 01 PING and 06 CRYPTO are",
         ),
-        12 => put_text(out, b"bytes of this frame are missing"),
-        13 => put_text(out, b"this frame ends past 16384"),
-        14 => put_text(
+        12 => put_some(out, b"bytes of this frame are missing"),
+        13 => put_some(out, b"this frame ends past 16384"),
+        14 => put_some(
             out,
             b"this frame has another byte for a place that is filled",
         ),
-        _ => put_text(out, b"a place below the stream's end is not filled"),
+        _ => put_some(out, b"a place below the stream's end is not filled"),
     }
 }
 
@@ -128,9 +129,9 @@ fn put_last(out: &mut [u8], rest: bool) -> usize
     ensures { λ r. ⌜ Wrote r (now (out .entry)) (now (out .exit)) ⌝ }
 {
     if rest {
-        put_text(out, b"  rest, for which there is no room")
+        put_some(out, b"  rest, for which there is no room")
     } else {
-        put_text(out, b"  end")
+        put_some(out, b"  end")
     }
 }
 

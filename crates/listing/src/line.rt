@@ -112,6 +112,13 @@ pub fn put_run(out: &mut [u8], bytes: &[u8]) -> usize
     m + put_count(&mut out[m..], bytes.len())
 }
 
+// Writes words; no contract says more of them than that they are a text.
+pub fn put_some(out: &mut [u8], words: &[u8]) -> usize
+    ensures { λ r. ⌜ Wrote r (now (out .entry)) (now (out .exit)) ⌝ }
+{
+    put_text(out, words)
+}
+
 // How deep a line is nested, by its part.
 fn depth(part: usize) -> usize
     ensures { λ r. ⌜ r ≤ 3 ⌝ }
@@ -129,7 +136,7 @@ fn depth(part: usize) -> usize
 pub fn put_noun(out: &mut [u8], what: usize) -> usize
     ensures { λ r. ⌜ Wrote r (now (out .entry)) (now (out .exit)) ⌝ }
 {
-    put_text(
+    put_some(
         out,
         word_at(
             b"msg_type length legacy_version random legacy_session_id cipher_suites suite legacy_compression_methods \
@@ -231,9 +238,9 @@ fn put_unit(out: &mut [u8], count: u64) -> usize
     ensures { λ r. ⌜ Wrote r (now (out .entry)) (now (out .exit)) ⌝ }
 {
     if count == 1 {
-        put_text(out, b" byte")
+        put_some(out, b" byte")
     } else {
-        put_text(out, b" bytes")
+        put_some(out, b" bytes")
     }
 }
 

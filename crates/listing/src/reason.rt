@@ -3,6 +3,7 @@ ghost use Prim.Native.Nat.{_≤_};
 ghost use Rattle.listing.specs.Text.{Wrote, ReasonWritten};
 use crate::line::put_bytes_of;
 use crate::line::put_noun;
+use crate::line::put_some;
 use fingerprint::walk::slot;
 use hello_lines::cursor::Line;
 use hello_lines::grammar::LENGTH;
@@ -19,7 +20,7 @@ use wire::be16;
 fn put_part(out: &mut [u8], what: usize) -> usize
     ensures { λ r. ⌜ Wrote r (now (out .entry)) (now (out .exit)) ⌝ }
 {
-    put_text(
+    put_some(
         out,
         word_at(b"hello list block body list", column(what, PART)),
     )
@@ -29,9 +30,9 @@ fn put_is_left(out: &mut [u8], left: usize) -> usize
     ensures { λ r. ⌜ Wrote r (now (out .entry)) (now (out .exit)) ⌝ }
 {
     if left == 1 {
-        put_text(out, b" is left in the ")
+        put_some(out, b" is left in the ")
     } else {
-        put_text(out, b" are left in the ")
+        put_some(out, b" are left in the ")
     }
 }
 
@@ -83,20 +84,20 @@ fn put_rule(out: &mut [u8], what: usize, bytes: &[u8], said: u64) -> usize
     ensures { λ r. ⌜ Wrote r (now (out .entry)) (now (out .exit)) ⌝ }
 {
     match what {
-        4 => put_text(out, b"a session id has at most 32 bytes"),
-        5 => put_text(out, b"suites take an even number of bytes, 2 or more"),
-        7 => put_text(out, b"compression takes 1 byte or more"),
+        4 => put_some(out, b"a session id has at most 32 bytes"),
+        5 => put_some(out, b"suites take an even number of bytes, 2 or more"),
+        7 => put_some(out, b"compression takes 1 byte or more"),
         9 => put_extension_rule(out, bytes, said),
-        10 => put_text(out, b"a list of one name"),
-        11 => put_text(
+        10 => put_some(out, b"a list of one name"),
+        11 => put_some(
             out,
             b"one entry of type 0, with a name of 1 byte or more that ends the list",
         ),
-        16 => put_text(out, b"a list of one name or more"),
-        17 => put_text(out, b"a name has 1 byte or more"),
-        21 => put_text(out, b"a key has 1 byte or more"),
-        26 => put_text(out, b"the hello ends before this field"),
-        _ => put_text(out, b"a list takes an even number of bytes, 2 or more"),
+        16 => put_some(out, b"a list of one name or more"),
+        17 => put_some(out, b"a name has 1 byte or more"),
+        21 => put_some(out, b"a key has 1 byte or more"),
+        26 => put_some(out, b"the hello ends before this field"),
+        _ => put_some(out, b"a list takes an even number of bytes, 2 or more"),
     }
 }
 
@@ -108,11 +109,11 @@ fn put_extension_rule(out: &mut [u8], bytes: &[u8], said: u64) -> usize
     if 2 <= bytes.len() {
         if slot(be16(bytes)) < 6 {
             if said == 0 {
-                return put_text(out, b"this type stands twice, or its body may not be empty");
+                return put_some(out, b"this type stands twice, or its body may not be empty");
             }
         }
     }
-    put_text(out, b"this type stands twice")
+    put_some(out, b"this type stands twice")
 }
 
 // Whether a line's length must be just what is left: the hello's, the block's, and those of lists in a body.
@@ -158,9 +159,9 @@ fn put_bound(out: &mut [u8], what: usize) -> usize
     ensures { λ r. ⌜ Wrote r (now (out .entry)) (now (out .exit)) ⌝ }
 {
     if what == PROTOCOL {
-        put_text(out, b" is one more than 16")
+        put_some(out, b" is one more than 16")
     } else {
-        put_text(out, b" is one more than 64")
+        put_some(out, b" is one more than 64")
     }
 }
 

@@ -5,7 +5,7 @@ use mathlib.Core.List.{List, [], _∷_, _++_, map}
 use mathlib.Core.Option.{Option, none, some}
 use lib.ListN.{length}
 use lib.Dec.{eqb}
-use Rattle.script.specs.Scan.{space, quote, dash, all}
+use Rattle.script.specs.Scan.{text, space, quote, dash, all}
 use Rattle.script.specs.Decimal.{decimalText}
 use Rattle.script.specs.Hex.{hexText}
 use Rattle.script.specs.Piece.{isPlain}
@@ -15,61 +15,47 @@ use Rattle.reports.specs.Digits.{wordText, idText}
 
 -- ---- The words
 
--- "report\n  session-id-length "
 abbrev pub sessionLabel : List ℕ
-sessionLabel = 114 ∷ 101 ∷ 112 ∷ 111 ∷ 114 ∷ 116 ∷ 10 ∷ space ∷ space ∷ 115 ∷ 101 ∷ 115 ∷ 115 ∷ 105 ∷ 111 ∷ 110 ∷ 45 ∷ 105 ∷ 100 ∷ 45 ∷ 108 ∷ 101 ∷ 110 ∷ 103 ∷ 116 ∷ 104 ∷ space ∷ []
+sessionLabel = text "report\n  session-id-length "
 
--- "\n  cipher-suites"
 abbrev pub suitesLabel : List ℕ
-suitesLabel = 10 ∷ space ∷ space ∷ 99 ∷ 105 ∷ 112 ∷ 104 ∷ 101 ∷ 114 ∷ 45 ∷ 115 ∷ 117 ∷ 105 ∷ 116 ∷ 101 ∷ 115 ∷ []
+suitesLabel = text "\n  cipher-suites"
 
--- "\n  extensions"
 abbrev pub extensionsLabel : List ℕ
-extensionsLabel = 10 ∷ space ∷ space ∷ 101 ∷ 120 ∷ 116 ∷ 101 ∷ 110 ∷ 115 ∷ 105 ∷ 111 ∷ 110 ∷ 115 ∷ []
+extensionsLabel = text "\n  extensions"
 
--- "\n  supported-groups"
 abbrev pub groupsLabel : List ℕ
-groupsLabel = 10 ∷ space ∷ space ∷ 115 ∷ 117 ∷ 112 ∷ 112 ∷ 111 ∷ 114 ∷ 116 ∷ 101 ∷ 100 ∷ 45 ∷ 103 ∷ 114 ∷ 111 ∷ 117 ∷ 112 ∷ 115 ∷ []
+groupsLabel = text "\n  supported-groups"
 
--- "\n  key-share-groups"
 abbrev pub sharesLabel : List ℕ
-sharesLabel = 10 ∷ space ∷ space ∷ 107 ∷ 101 ∷ 121 ∷ 45 ∷ 115 ∷ 104 ∷ 97 ∷ 114 ∷ 101 ∷ 45 ∷ 103 ∷ 114 ∷ 111 ∷ 117 ∷ 112 ∷ 115 ∷ []
+sharesLabel = text "\n  key-share-groups"
 
--- "\n  signature-algorithms"
 abbrev pub algorithmsLabel : List ℕ
-algorithmsLabel = 10 ∷ space ∷ space ∷ 115 ∷ 105 ∷ 103 ∷ 110 ∷ 97 ∷ 116 ∷ 117 ∷ 114 ∷ 101 ∷ 45 ∷ 97 ∷ 108 ∷ 103 ∷ 111 ∷ 114 ∷ 105 ∷ 116 ∷ 104 ∷ 109 ∷ 115 ∷ []
+algorithmsLabel = text "\n  signature-algorithms"
 
--- "\n  supported-versions"
 abbrev pub versionsLabel : List ℕ
-versionsLabel = 10 ∷ space ∷ space ∷ 115 ∷ 117 ∷ 112 ∷ 112 ∷ 111 ∷ 114 ∷ 116 ∷ 101 ∷ 100 ∷ 45 ∷ 118 ∷ 101 ∷ 114 ∷ 115 ∷ 105 ∷ 111 ∷ 110 ∷ 115 ∷ []
+versionsLabel = text "\n  supported-versions"
 
--- "\n  alpn"
 abbrev pub alpnLabel : List ℕ
-alpnLabel = 10 ∷ space ∷ space ∷ 97 ∷ 108 ∷ 112 ∷ 110 ∷ []
+alpnLabel = text "\n  alpn"
 
--- "\n  name"
 abbrev pub nameLabel : List ℕ
-nameLabel = 10 ∷ space ∷ space ∷ 110 ∷ 97 ∷ 109 ∷ 101 ∷ []
+nameLabel = text "\n  name"
 
--- "\n  transport-parameters"
 abbrev pub parametersLabel : List ℕ
-parametersLabel = 10 ∷ space ∷ space ∷ 116 ∷ 114 ∷ 97 ∷ 110 ∷ 115 ∷ 112 ∷ 111 ∷ 114 ∷ 116 ∷ 45 ∷ 112 ∷ 97 ∷ 114 ∷ 97 ∷ 109 ∷ 101 ∷ 116 ∷ 101 ∷ 114 ∷ 115 ∷ []
+parametersLabel = text "\n  transport-parameters"
 
--- " none"
 abbrev pub noneWord : List ℕ
-noneWord = space ∷ 110 ∷ 111 ∷ 110 ∷ 101 ∷ []
+noneWord = text " none"
 
--- ".."
 abbrev pub dots : List ℕ
-dots = 46 ∷ 46 ∷ []
+dots = text ".."
 
--- "types"
 abbrev pub typesWord : List ℕ
-typesWord = 116 ∷ 121 ∷ 112 ∷ 101 ∷ 115 ∷ []
+typesWord = text "types"
 
--- "name "
 abbrev pub nameWord : List ℕ
-nameWord = 110 ∷ 97 ∷ 109 ∷ 101 ∷ space ∷ []
+nameWord = text "name "
 
 -- ---- Names
 

@@ -1,10 +1,18 @@
 -- Tests and searches on bytes.
 use Prim.Native.Nat.{ℕ, suc, _+_, _-_, _≤_}
+use Prim.Native.Char.{code}
+use Prim.Native.String as native
+use Prim.Native.String.{String}
 use mathlib.Core.Path.{_≡_}
 use mathlib.Core.Bool.{Bool, true, false, _&&_, cond}
 use mathlib.Core.List.{List, [], _∷_}
 use lib.ListN.{length, drop}
 use lib.Dec.{leb, eqb}
+
+-- the bytes of a text
+abbrev pub text : String → List ℕ
+text native.[] = []
+text (native._∷_ c s) = code c ∷ text s
 
 -- the bytes that a script gives a meaning to: the space, `"`, `*`, `+`, `-`, `@` and `_`
 abbrev pub space : ℕ

@@ -47,18 +47,12 @@ sane-b c = parsed-sane (hello-b c) (report-b c) (parsed-b c)
 answer : (c : tie.Else2) → alike (read (hello-a c)) (read (hello-b c)) ≡ agreeOf (hello-a c) (report-a c) (hello-b c) (report-b c)
 answer c = alike-parsed (hello-a c) (hello-b c) (report-a c) (report-b c) (parsed-a c) (parsed-b c)
 
-parse-clienthello-requires : tie.Need-parse-clienthello-requires
-parse-clienthello-requires c κs = search needs
-
 returns : tie.Need-returns
 returns c =
     let parsed = c .before .before .parse-clienthello in
     let a = c .before .before .before .before .before .args .a .now in
     let bytes : Bytes a = λ i. (c .before .before .before .before .shared-slice-known .given i) .fits in
     first-refused a (c .before .before .before .before .before .args .b .now) (parsed .result .number) (refusal-is a bytes (parsed .result) (parsed .ensures) (c .if1 .taken))
-
-parse-clienthello-requires-2 : tie.Need-parse-clienthello-requires-2
-parse-clienthello-requires-2 c κs = search needs
 
 returns-2 : tie.Need-returns-2
 returns-2 c =
@@ -126,9 +120,9 @@ pub alike-spec : {M : Type 1} → statement M
 alike-spec =
     tie.close
     (tie.spec
-    parse-clienthello-requires
+    (λ c κs. search needs)  -- parse-clienthello-requires
     returns
-    parse-clienthello-requires-2
+    (λ c κs. search needs)  -- parse-clienthello-requires-2
     returns-2
     returns-3
     same-name-requires

@@ -9,18 +9,6 @@ use borrow.Author.Needs.{needs}
 use Rattle.answers.proofs.say_alike.Statement.{statement}
 use Rattle.answers.proofs.say_alike.Tie as tie
 
-alike-requires : tie.Need-alike-requires
-alike-requires c κs = search needs
-
-slice-aggregate-put-text : tie.Need-slice-aggregate-put-text
-slice-aggregate-put-text c = search needs
-
-put-text-requires : tie.Need-put-text-requires
-put-text-requires c κs = search needs
-
-same-length : tie.Need-same-length
-same-length c = search needs
-
 returns : tie.Need-returns
 returns c =
     let args = c .before .before .before .before .before .before .before .before .before .before .args in
@@ -29,15 +17,6 @@ returns c =
     rw verdict
     (says-result (yesWord ∷ []) (put .result) (now (args .out)) (put .last .0)
     (written-one yesWord (put .result) (now (args .out)) (put .last .0) (put .ensures)))
-
-slice-aggregate-put-text-2 : tie.Need-slice-aggregate-put-text-2
-slice-aggregate-put-text-2 c = search needs
-
-put-text-requires-2 : tie.Need-put-text-requires-2
-put-text-requires-2 c κs = search needs
-
-same-length-2 : tie.Need-same-length-2
-same-length-2 c = search needs
 
 returns-2 : tie.Need-returns-2
 returns-2 c =
@@ -52,12 +31,12 @@ pub say-alike-spec : {M : Type 1} → statement M
 say-alike-spec =
     tie.close
     (tie.spec
-    alike-requires
-    slice-aggregate-put-text
-    put-text-requires
-    same-length
+    (λ c κs. search needs)  -- alike-requires
+    (λ c. search needs)  -- slice-aggregate-put-text
+    (λ c κs. search needs)  -- put-text-requires
+    (λ c. search needs)  -- same-length
     returns
-    slice-aggregate-put-text-2
-    put-text-requires-2
-    same-length-2
+    (λ c. search needs)  -- slice-aggregate-put-text-2
+    (λ c κs. search needs)  -- put-text-requires-2
+    (λ c. search needs)  -- same-length-2
     returns-2)

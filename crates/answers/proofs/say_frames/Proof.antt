@@ -17,50 +17,11 @@ use borrow.Author.Needs.{needs}
 use Rattle.answers.proofs.say_frames.Statement.{statement}
 use Rattle.answers.proofs.say_frames.Tie as tie
 
-write-frames-requires : tie.Need-write-frames-requires
-write-frames-requires c κs = search needs
-
-enum-known-length : tie.Need-enum-known-length
-enum-known-length c = search needs
-
-slice-aggregate-put-number-and-bytes : tie.Need-slice-aggregate-put-number-and-bytes
-slice-aggregate-put-number-and-bytes c = search needs
-
-put-number-and-bytes-requires : tie.Need-put-number-and-bytes-requires
-put-number-and-bytes-requires c κs = search needs
-
-sub-put-text : tie.Need-sub-put-text
-sub-put-text c = search needs
-
-part-put-text-start : tie.Need-part-put-text-start
-part-put-text-start c = search needs
-
 part-put-text-end : tie.Need-part-put-text-end
 part-put-text-end c =
     let length = c .before .before .before .before .before .before .before .before .before .length in
     let write-frames = c .before .before .before .before .before .before .before .before .before .before .before .before .before .write-frames in
     omega (arith, rw (length .given .1) at (write-frames .ensures .bounds))
-
-put-text-requires : tie.Need-put-text-requires
-put-text-requires c κs = search needs
-
-enum-known-number : tie.Need-enum-known-number
-enum-known-number c = search needs
-
-slice-aggregate-put-number-and-bytes-2 : tie.Need-slice-aggregate-put-number-and-bytes-2
-slice-aggregate-put-number-and-bytes-2 c = search needs
-
-put-number-and-bytes-requires-2 : tie.Need-put-number-and-bytes-requires-2
-put-number-and-bytes-requires-2 c κs = search needs
-
-same-length : tie.Need-same-length
-same-length c = search needs
-
-same-length-2 : tie.Need-same-length-2
-same-length-2 c = search needs
-
-same-length-3 : tie.Need-same-length-3
-same-length-3 c = search needs
 
 returns : tie.Need-returns
 returns c =
@@ -73,12 +34,6 @@ returns c =
     let e : result n ≡ cutOf (args .c) (now (args .hello)) (lengthOf (now (args .buffer))) = rw (length .given .1) at (cut .ensures .is) in
     let taken : take n (cut .last .1 .1 .0) ≡ framesOf (args .c) (now (args .hello)) = rw (cut .ensures .output) (frames-taken (args .c) (now (args .hello)) (now (args .buffer)) n (sym e)) in
     rw (← e, ← (cut .ensures .output)) (hands-back (lengthWord ∷ decimalText n ∷ (space ∷ []) ∷ shownText (cut .last .1 .1 .0) ∷ []) (put .result) (now (args .out)) (put .last .0) (put .ensures) (now (args .last)) (framesOf (args .c) (now (args .hello))) (kept .result) (kept .last .0) (rw (front-part n (cut .last .1 .1 .0) (framesOf (args .c) (now (args .hello))) taken) at (kept .ensures)))
-
-same-length-4 : tie.Need-same-length-4
-same-length-4 c = search needs
-
-same-length-5 : tie.Need-same-length-5
-same-length-5 c = search needs
 
 returns-2 : tie.Need-returns-2
 returns-2 c =
@@ -93,21 +48,21 @@ pub say-frames-spec : {M : Type 1} → statement M
 say-frames-spec =
     tie.close
     (tie.spec
-    write-frames-requires
-    enum-known-length
-    slice-aggregate-put-number-and-bytes
-    put-number-and-bytes-requires
-    sub-put-text
-    part-put-text-start
+    (λ c κs. search needs)  -- write-frames-requires
+    (λ c. search needs)  -- enum-known-length
+    (λ c. search needs)  -- slice-aggregate-put-number-and-bytes
+    (λ c κs. search needs)  -- put-number-and-bytes-requires
+    (λ c. search needs)  -- sub-put-text
+    (λ c. search needs)  -- part-put-text-start
     part-put-text-end
-    put-text-requires
-    enum-known-number
-    slice-aggregate-put-number-and-bytes-2
-    put-number-and-bytes-requires-2
-    same-length
-    same-length-2
-    same-length-3
+    (λ c κs. search needs)  -- put-text-requires
+    (λ c. search needs)  -- enum-known-number
+    (λ c. search needs)  -- slice-aggregate-put-number-and-bytes-2
+    (λ c κs. search needs)  -- put-number-and-bytes-requires-2
+    (λ c. search needs)  -- same-length
+    (λ c. search needs)  -- same-length-2
+    (λ c. search needs)  -- same-length-3
     returns
-    same-length-4
-    same-length-5
+    (λ c. search needs)  -- same-length-4
+    (λ c. search needs)  -- same-length-5
     returns-2)

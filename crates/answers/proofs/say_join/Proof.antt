@@ -17,24 +17,6 @@ use borrow.Author.Needs.{needs}
 use Rattle.answers.proofs.say_join.Statement.{statement}
 use Rattle.answers.proofs.say_join.Tie as tie
 
-reassemble-crypto-requires : tie.Need-reassemble-crypto-requires
-reassemble-crypto-requires c κs = search needs
-
-enum-known-end : tie.Need-enum-known-end
-enum-known-end c = search needs
-
-slice-aggregate-put-number-and-two : tie.Need-slice-aggregate-put-number-and-two
-slice-aggregate-put-number-and-two c = search needs
-
-put-number-and-two-requires : tie.Need-put-number-and-two-requires
-put-number-and-two-requires c κs = search needs
-
-sub-put-text : tie.Need-sub-put-text
-sub-put-text c = search needs
-
-part-put-text-start : tie.Need-part-put-text-start
-part-put-text-start c = search needs
-
 part-put-text-end : tie.Need-part-put-text-end
 part-put-text-end c =
     let end = c .before .before .before .before .before .before .before .before .before .before .end in
@@ -43,30 +25,6 @@ part-put-text-end c =
     let e : result (end .given .0 .0) ≡ joinOf (now (args .frames)) (now (args .buffer)) (now (args .marks)) = rw (end .given .1) at (joined .ensures .is) in
     let b : (end .given .0 .0) ≤ 16384 = rw (end .given .1) at (joined .ensures .bounds) in
     omega (arith, end-within (now (args .frames)) (now (args .buffer)) (now (args .marks)) (end .given .0 .0) (sym e) b, joined .kept)
-
-put-text-requires : tie.Need-put-text-requires
-put-text-requires c κs = search needs
-
-enum-known-number : tie.Need-enum-known-number
-enum-known-number c = search needs
-
-slice-aggregate-put-number-and-two-2 : tie.Need-slice-aggregate-put-number-and-two-2
-slice-aggregate-put-number-and-two-2 c = search needs
-
-put-number-and-two-requires-2 : tie.Need-put-number-and-two-requires-2
-put-number-and-two-requires-2 c κs = search needs
-
-same-length : tie.Need-same-length
-same-length c = search needs
-
-same-length-2 : tie.Need-same-length-2
-same-length-2 c = search needs
-
-same-length-3 : tie.Need-same-length-3
-same-length-3 c = search needs
-
-same-length-4 : tie.Need-same-length-4
-same-length-4 c = search needs
 
 returns : tie.Need-returns
 returns c =
@@ -79,15 +37,6 @@ returns c =
     let e : result n ≡ joinOf (now (args .frames)) (now (args .buffer)) (now (args .marks)) = rw (end .given .1) at (joined .ensures .is) in
     let taken : take n (joined .last .1 .0) ≡ placedOf (join (now (args .frames))) = rw (joined .ensures .output) (stream-taken (now (args .frames)) (now (args .buffer)) (now (args .marks)) n (sym e)) in
     rw (← e, ← (joined .ensures .output), ← (joined .ensures .marked)) (hands-back ((endWord ++ (space ∷ [])) ∷ decimalText n ∷ (space ∷ []) ∷ shownText (joined .last .1 .0) ∷ (space ∷ []) ∷ shownText (joined .last .1 .1 .0) ∷ []) (put .result) (now (args .out)) (put .last .0) (put .ensures) (now (args .last)) (placedOf (join (now (args .frames)))) (kept .result) (kept .last .0) (rw (front-part n (joined .last .1 .0) (placedOf (join (now (args .frames)))) taken) at (kept .ensures)))
-
-same-length-5 : tie.Need-same-length-5
-same-length-5 c = search needs
-
-same-length-6 : tie.Need-same-length-6
-same-length-6 c = search needs
-
-same-length-7 : tie.Need-same-length-7
-same-length-7 c = search needs
 
 returns-2 : tie.Need-returns-2
 returns-2 c =
@@ -102,23 +51,23 @@ pub say-join-spec : {M : Type 1} → statement M
 say-join-spec =
     tie.close
     (tie.spec
-    reassemble-crypto-requires
-    enum-known-end
-    slice-aggregate-put-number-and-two
-    put-number-and-two-requires
-    sub-put-text
-    part-put-text-start
+    (λ c κs. search needs)  -- reassemble-crypto-requires
+    (λ c. search needs)  -- enum-known-end
+    (λ c. search needs)  -- slice-aggregate-put-number-and-two
+    (λ c κs. search needs)  -- put-number-and-two-requires
+    (λ c. search needs)  -- sub-put-text
+    (λ c. search needs)  -- part-put-text-start
     part-put-text-end
-    put-text-requires
-    enum-known-number
-    slice-aggregate-put-number-and-two-2
-    put-number-and-two-requires-2
-    same-length
-    same-length-2
-    same-length-3
-    same-length-4
+    (λ c κs. search needs)  -- put-text-requires
+    (λ c. search needs)  -- enum-known-number
+    (λ c. search needs)  -- slice-aggregate-put-number-and-two-2
+    (λ c κs. search needs)  -- put-number-and-two-requires-2
+    (λ c. search needs)  -- same-length
+    (λ c. search needs)  -- same-length-2
+    (λ c. search needs)  -- same-length-3
+    (λ c. search needs)  -- same-length-4
     returns
-    same-length-5
-    same-length-6
-    same-length-7
+    (λ c. search needs)  -- same-length-5
+    (λ c. search needs)  -- same-length-6
+    (λ c. search needs)  -- same-length-7
     returns-2)

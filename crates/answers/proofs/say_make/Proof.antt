@@ -16,53 +16,11 @@ use borrow.Author.Needs.{needs}
 use Rattle.answers.proofs.say_make.Statement.{statement}
 use Rattle.answers.proofs.say_make.Tie as tie
 
-generate-client-hello-requires : tie.Need-generate-client-hello-requires
-generate-client-hello-requires c κs = search needs
-
-enum-known-hello : tie.Need-enum-known-hello
-enum-known-hello c = search needs
-
-slice-aggregate-put-two-numbers-and-bytes : tie.Need-slice-aggregate-put-two-numbers-and-bytes
-slice-aggregate-put-two-numbers-and-bytes c = search needs
-
-slice-aggregate-put-two-numbers-and-bytes-2 : tie.Need-slice-aggregate-put-two-numbers-and-bytes-2
-slice-aggregate-put-two-numbers-and-bytes-2 c = search needs
-
-put-two-numbers-and-bytes-requires : tie.Need-put-two-numbers-and-bytes-requires
-put-two-numbers-and-bytes-requires c κs = search needs
-
-sub-put-text : tie.Need-sub-put-text
-sub-put-text c = search needs
-
-part-put-text-start : tie.Need-part-put-text-start
-part-put-text-start c = search needs
-
 part-put-text-end : tie.Need-part-put-text-end
 part-put-text-end c =
     let hello = c .before .before .before .before .before .before .before .before .before .before .hello in
     let made = c .before .before .before .before .before .before .before .before .before .before .before .before .before .before .generate-client-hello in
     omega (arith, rw (hello .given .1) at (made .ensures .bounds) .0)
-
-put-text-requires : tie.Need-put-text-requires
-put-text-requires c κs = search needs
-
-enum-known-number : tie.Need-enum-known-number
-enum-known-number c = search needs
-
-slice-aggregate-put-number-and-bytes : tie.Need-slice-aggregate-put-number-and-bytes
-slice-aggregate-put-number-and-bytes c = search needs
-
-put-number-and-bytes-requires : tie.Need-put-number-and-bytes-requires
-put-number-and-bytes-requires c κs = search needs
-
-same-length : tie.Need-same-length
-same-length c = search needs
-
-same-length-2 : tie.Need-same-length-2
-same-length-2 c = search needs
-
-same-length-3 : tie.Need-same-length-3
-same-length-3 c = search needs
 
 returns : tie.Need-returns
 returns c =
@@ -78,12 +36,6 @@ returns c =
     let taken : take (h .length) buffer ≡ bytes = rw (made .ensures .output) (hello-taken (args .profile) (now (args .name)) (now (args .scid)) (now (args .tape)) (now (args .buffer)) h (sym e)) in
     rw (← e, ← (made .ensures .output)) (hands-back (lengthWord ∷ decimalText (h .length) ∷ (space ∷ drawnWord) ∷ decimalText (h .drawn) ∷ (space ∷ []) ∷ shownText buffer ∷ []) (put .result) (now (args .out)) (put .last .0) (put .ensures) (now (args .last)) bytes (kept .result) (kept .last .0) (rw (front-part (h .length) buffer bytes taken) at (kept .ensures)))
 
-same-length-4 : tie.Need-same-length-4
-same-length-4 c = search needs
-
-same-length-5 : tie.Need-same-length-5
-same-length-5 c = search needs
-
 returns-2 : tie.Need-returns-2
 returns-2 c =
     let number = c .before .before .before .before .before .before .before .number in
@@ -98,22 +50,22 @@ pub say-make-spec : {M : Type 1} → statement M
 say-make-spec =
     tie.close
     (tie.spec
-    generate-client-hello-requires
-    enum-known-hello
-    slice-aggregate-put-two-numbers-and-bytes
-    slice-aggregate-put-two-numbers-and-bytes-2
-    put-two-numbers-and-bytes-requires
-    sub-put-text
-    part-put-text-start
+    (λ c κs. search needs)  -- generate-client-hello-requires
+    (λ c. search needs)  -- enum-known-hello
+    (λ c. search needs)  -- slice-aggregate-put-two-numbers-and-bytes
+    (λ c. search needs)  -- slice-aggregate-put-two-numbers-and-bytes-2
+    (λ c κs. search needs)  -- put-two-numbers-and-bytes-requires
+    (λ c. search needs)  -- sub-put-text
+    (λ c. search needs)  -- part-put-text-start
     part-put-text-end
-    put-text-requires
-    enum-known-number
-    slice-aggregate-put-number-and-bytes
-    put-number-and-bytes-requires
-    same-length
-    same-length-2
-    same-length-3
+    (λ c κs. search needs)  -- put-text-requires
+    (λ c. search needs)  -- enum-known-number
+    (λ c. search needs)  -- slice-aggregate-put-number-and-bytes
+    (λ c κs. search needs)  -- put-number-and-bytes-requires
+    (λ c. search needs)  -- same-length
+    (λ c. search needs)  -- same-length-2
+    (λ c. search needs)  -- same-length-3
     returns
-    same-length-4
-    same-length-5
+    (λ c. search needs)  -- same-length-4
+    (λ c. search needs)  -- same-length-5
     returns-2)

@@ -6,21 +6,6 @@ use Rattle.answers.proofs.AnswerLaws.{hands-back}
 use Rattle.answers.proofs.say_name.Statement.{statement}
 use Rattle.answers.proofs.say_name.Tie as tie
 
-name-or-requires : tie.Need-name-or-requires
-name-or-requires c κs = search needs
-
-put-name-answer-requires : tie.Need-put-name-answer-requires
-put-name-answer-requires c κs = search needs
-
-put-text-requires : tie.Need-put-text-requires
-put-text-requires c κs = search needs
-
-same-length : tie.Need-same-length
-same-length c = search needs
-
-same-length-2 : tie.Need-same-length-2
-same-length-2 c = search needs
-
 returns : tie.Need-returns
 returns c =
     let args = c .before .before .before .before .before .before .before .before .before .before .before .before .before .args in
@@ -35,9 +20,9 @@ pub say-name-spec : {M : Type 1} → statement M
 say-name-spec =
     tie.close
     (tie.spec
-    name-or-requires
-    put-name-answer-requires
-    put-text-requires
-    same-length
-    same-length-2
+    (λ c κs. search needs)  -- name-or-requires
+    (λ c κs. search needs)  -- put-name-answer-requires
+    (λ c κs. search needs)  -- put-text-requires
+    (λ c. search needs)  -- same-length
+    (λ c. search needs)  -- same-length-2
     returns)

@@ -12,33 +12,6 @@ use borrow.Author.Needs.{needs}
 use Rattle.answers.proofs.say_read.Statement.{statement}
 use Rattle.answers.proofs.say_read.Tie as tie
 
-read-requires : tie.Need-read-requires
-read-requires c κs = search needs
-
-enum-known-x : tie.Need-enum-known-x
-enum-known-x c = search needs
-
-slice-aggregate-put-two-numbers : tie.Need-slice-aggregate-put-two-numbers
-slice-aggregate-put-two-numbers c = search needs
-
-slice-aggregate-put-two-numbers-2 : tie.Need-slice-aggregate-put-two-numbers-2
-slice-aggregate-put-two-numbers-2 c = search needs
-
-put-two-numbers-requires : tie.Need-put-two-numbers-requires
-put-two-numbers-requires c κs = search needs
-
-enum-known-number : tie.Need-enum-known-number
-enum-known-number c = search needs
-
-slice-aggregate-put-number : tie.Need-slice-aggregate-put-number
-slice-aggregate-put-number c = search needs
-
-put-number-requires : tie.Need-put-number-requires
-put-number-requires c κs = search needs
-
-same-length : tie.Need-same-length
-same-length c = search needs
-
 returns : tie.Need-returns
 returns c =
     let read = c .before .before .before .before .before .before .before .before .before .read in
@@ -48,9 +21,6 @@ returns c =
     let v = x .given .0 .0 in
     let e : result v ≡ readOf (now (args .input)) = rw (x .given .1) at (read .ensures .is) in
     rw (← e) (says-result (valueWord ∷ decimalText (v .value) ∷ (space ∷ widthWord) ∷ decimalText (v .width) ∷ []) (put .result) (now (args .out)) (put .last .0) (put .ensures))
-
-same-length-2 : tie.Need-same-length-2
-same-length-2 c = search needs
 
 returns-2 : tie.Need-returns-2
 returns-2 c =
@@ -65,15 +35,15 @@ pub say-read-spec : {M : Type 1} → statement M
 say-read-spec =
     tie.close
     (tie.spec
-    read-requires
-    enum-known-x
-    slice-aggregate-put-two-numbers
-    slice-aggregate-put-two-numbers-2
-    put-two-numbers-requires
-    enum-known-number
-    slice-aggregate-put-number
-    put-number-requires
-    same-length
+    (λ c κs. search needs)  -- read-requires
+    (λ c. search needs)  -- enum-known-x
+    (λ c. search needs)  -- slice-aggregate-put-two-numbers
+    (λ c. search needs)  -- slice-aggregate-put-two-numbers-2
+    (λ c κs. search needs)  -- put-two-numbers-requires
+    (λ c. search needs)  -- enum-known-number
+    (λ c. search needs)  -- slice-aggregate-put-number
+    (λ c κs. search needs)  -- put-number-requires
+    (λ c. search needs)  -- same-length
     returns
-    same-length-2
+    (λ c. search needs)  -- same-length-2
     returns-2)

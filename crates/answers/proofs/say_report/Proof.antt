@@ -17,18 +17,6 @@ use Rattle.fingerprint.proofs.ShownLaws.{parsed-sane, reported, refusal-is}
 use Rattle.answers.proofs.say_report.Statement.{statement}
 use Rattle.answers.proofs.say_report.Tie as tie
 
-parse-clienthello-requires : tie.Need-parse-clienthello-requires
-parse-clienthello-requires c κs = search needs
-
-slice-aggregate-put-number : tie.Need-slice-aggregate-put-number
-slice-aggregate-put-number c = search needs
-
-put-number-requires : tie.Need-put-number-requires
-put-number-requires c κs = search needs
-
-same-length : tie.Need-same-length
-same-length c = search needs
-
 returns : tie.Need-returns
 returns c =
     let args = c .before .before .before .before .before .before .before .before .before .args in
@@ -48,9 +36,6 @@ put-report-requires c κs =
     let r = reported h bytes (parsed .result) (parsed .ensures) (c .before .if1 .left) in
     parsed-sane h (parsed .result) r
 
-same-length-2 : tie.Need-same-length-2
-same-length-2 c = search needs
-
 returns-2 : tie.Need-returns-2
 returns-2 c =
     let args = c .before .before .before .before .before .before .before .before .args in
@@ -67,11 +52,11 @@ pub say-report-spec : {M : Type 1} → statement M
 say-report-spec =
     tie.close
     (tie.spec
-    parse-clienthello-requires
-    slice-aggregate-put-number
-    put-number-requires
-    same-length
+    (λ c κs. search needs)  -- parse-clienthello-requires
+    (λ c. search needs)  -- slice-aggregate-put-number
+    (λ c κs. search needs)  -- put-number-requires
+    (λ c. search needs)  -- same-length
     returns
     put-report-requires
-    same-length-2
+    (λ c. search needs)  -- same-length-2
     returns-2)

@@ -16,18 +16,12 @@ use Rattle.answers.proofs.ReaderLaws.{set-few}
 use Rattle.answers.proofs.say_set.Statement.{statement}
 use Rattle.answers.proofs.say_set.Tie as tie
 
-extension-set-requires : tie.Need-extension-set-requires
-extension-set-requires c κs = search needs
-
 put-set-requires : tie.Need-put-set-requires
 put-set-requires c κs =
     let h : List ℕ = now (c .before .before .before .before .args .hello) in
     let bytes : Bytes h = λ i. ((c .before .before .before .shared-slice-known .given) i) .fits in
     let e = c .before .extension-set .ensures in
     rw e (set-filled (extensionSet (read h)) (set-few h bytes))
-
-same-length : tie.Need-same-length
-same-length c = search needs
 
 returns : tie.Need-returns
 returns c =
@@ -39,4 +33,10 @@ returns c =
     says-result (setText types) (put .result) (now (args .out)) (put .last .0) (rw shown at (put .ensures))
 
 pub say-set-spec : {M : Type 1} → statement M
-say-set-spec = tie.close (tie.spec extension-set-requires put-set-requires same-length returns)
+say-set-spec =
+    tie.close
+    (tie.spec
+    (λ c κs. search needs)  -- extension-set-requires
+    put-set-requires
+    (λ c. search needs)  -- same-length
+    returns)

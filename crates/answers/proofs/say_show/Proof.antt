@@ -10,23 +10,8 @@ use lib.ListN.{length}
 use Rattle.answers.proofs.say_show.Statement.{statement}
 use Rattle.answers.proofs.say_show.Tie as tie
 
-stopped-at-requires : tie.Need-stopped-at-requires
-stopped-at-requires c κs = search needs
-
 enum-told : tie.Need-enum-told
 enum-told c = search needs
-
-put-listing-requires : tie.Need-put-listing-requires
-put-listing-requires c κs = search needs
-
-enum-known-number : tie.Need-enum-known-number
-enum-known-number c = search needs
-
-put-listing-requires-2 : tie.Need-put-listing-requires-2
-put-listing-requires-2 c κs = search needs
-
-same-length : tie.Need-same-length
-same-length c = search needs
 
 returns : tie.Need-returns
 returns c =
@@ -36,9 +21,6 @@ returns c =
     let put = c .before .before .put-listing in
     shows-listing (now (args .hello)) (stopFrom 0 0) (put .result) (now (args .out)) (put .last .0)
     (ap stopOf (sym told) ∙ stopped-at .ensures .0) (put .ensures)
-
-same-length-2 : tie.Need-same-length-2
-same-length-2 c = search needs
 
 returns-2 : tie.Need-returns-2
 returns-2 c =
@@ -54,12 +36,12 @@ pub say-show-spec : {M : Type 1} → statement M
 say-show-spec =
     tie.close
     (tie.spec
-    stopped-at-requires
+    (λ c κs. search needs)  -- stopped-at-requires
     enum-told
-    put-listing-requires
-    enum-known-number
-    put-listing-requires-2
-    same-length
+    (λ c κs. search needs)  -- put-listing-requires
+    (λ c. search needs)  -- enum-known-number
+    (λ c κs. search needs)  -- put-listing-requires-2
+    (λ c. search needs)  -- same-length
     returns
-    same-length-2
+    (λ c. search needs)  -- same-length-2
     returns-2)

@@ -10,35 +10,8 @@ use borrow.Author.Needs.{needs}
 use Rattle.answers.proofs.say_show_frames.Statement.{statement}
 use Rattle.answers.proofs.say_show_frames.Tie as tie
 
-joiner-room-requires : tie.Need-joiner-room-requires
-joiner-room-requires c κs = search needs
-
-joiner-room-requires-2 : tie.Need-joiner-room-requires-2
-joiner-room-requires-2 c κs = search needs
-
-slice-aggregate-joiner-stopped-at : tie.Need-slice-aggregate-joiner-stopped-at
-slice-aggregate-joiner-stopped-at c = search needs
-
-slice-aggregate-joiner-stopped-at-2 : tie.Need-slice-aggregate-joiner-stopped-at-2
-slice-aggregate-joiner-stopped-at-2 c = search needs
-
-joiner-stopped-at-requires : tie.Need-joiner-stopped-at-requires
-joiner-stopped-at-requires c κs = search needs
-
 enum-told : tie.Need-enum-told
 enum-told c = search needs
-
-put-frame-listing-requires : tie.Need-put-frame-listing-requires
-put-frame-listing-requires c κs = search needs
-
-enum-known-number : tie.Need-enum-known-number
-enum-known-number c = search needs
-
-put-frame-listing-requires-2 : tie.Need-put-frame-listing-requires-2
-put-frame-listing-requires-2 c κs = search needs
-
-same-length : tie.Need-same-length
-same-length c = search needs
 
 returns : tie.Need-returns
 returns c =
@@ -50,9 +23,6 @@ returns c =
     let second = c .before .before .before .before .before .before .before .before .before .before .before .joiner-room2 .result in
     shows-frames (now (args .frames)) (stopFrom 0 0) (put .result) (now (args .out)) (put .last .0)
     (ap stopOf (sym told) ∙ (stop .ensures .is ∙ roomy-stops (now (args .frames)) first second (search needs) (search needs))) (put .ensures)
-
-same-length-2 : tie.Need-same-length-2
-same-length-2 c = search needs
 
 returns-2 : tie.Need-returns-2
 returns-2 c =
@@ -70,16 +40,16 @@ pub say-show-frames-spec : {M : Type 1} → statement M
 say-show-frames-spec =
     tie.close
     (tie.spec
-    joiner-room-requires
-    joiner-room-requires-2
-    slice-aggregate-joiner-stopped-at
-    slice-aggregate-joiner-stopped-at-2
-    joiner-stopped-at-requires
+    (λ c κs. search needs)  -- joiner-room-requires
+    (λ c κs. search needs)  -- joiner-room-requires-2
+    (λ c. search needs)  -- slice-aggregate-joiner-stopped-at
+    (λ c. search needs)  -- slice-aggregate-joiner-stopped-at-2
+    (λ c κs. search needs)  -- joiner-stopped-at-requires
     enum-told
-    put-frame-listing-requires
-    enum-known-number
-    put-frame-listing-requires-2
-    same-length
+    (λ c κs. search needs)  -- put-frame-listing-requires
+    (λ c. search needs)  -- enum-known-number
+    (λ c κs. search needs)  -- put-frame-listing-requires-2
+    (λ c. search needs)  -- same-length
     returns
-    same-length-2
+    (λ c. search needs)  -- same-length-2
     returns-2)

@@ -11,30 +11,6 @@ use borrow.Author.Needs.{needs}
 use Rattle.answers.proofs.say_size.Statement.{statement}
 use Rattle.answers.proofs.say_size.Tie as tie
 
-size-requires : tie.Need-size-requires
-size-requires c κs = search needs
-
-enum-known-width : tie.Need-enum-known-width
-enum-known-width c = search needs
-
-slice-aggregate-put-number : tie.Need-slice-aggregate-put-number
-slice-aggregate-put-number c = search needs
-
-put-number-requires : tie.Need-put-number-requires
-put-number-requires c κs = search needs
-
-enum-known-number : tie.Need-enum-known-number
-enum-known-number c = search needs
-
-slice-aggregate-put-number-2 : tie.Need-slice-aggregate-put-number-2
-slice-aggregate-put-number-2 c = search needs
-
-put-number-requires-2 : tie.Need-put-number-requires-2
-put-number-requires-2 c κs = search needs
-
-same-length : tie.Need-same-length
-same-length c = search needs
-
 returns : tie.Need-returns
 returns c =
     let size = c .before .before .before .before .before .before .before .before .size in
@@ -43,9 +19,6 @@ returns c =
     let put = c .before .before .put-number in
     let e : result (width .given .0 .0) ≡ sizeOf (args .value) = rw (width .given .1) at (size .ensures .is) in
     rw (← e) (says-result (widthWord ∷ decimalText (width .given .0 .0) ∷ []) (put .result) (now (args .out)) (put .last .0) (put .ensures))
-
-same-length-2 : tie.Need-same-length-2
-same-length-2 c = search needs
 
 returns-2 : tie.Need-returns-2
 returns-2 c =
@@ -60,14 +33,14 @@ pub say-size-spec : {M : Type 1} → statement M
 say-size-spec =
     tie.close
     (tie.spec
-    size-requires
-    enum-known-width
-    slice-aggregate-put-number
-    put-number-requires
-    enum-known-number
-    slice-aggregate-put-number-2
-    put-number-requires-2
-    same-length
+    (λ c κs. search needs)  -- size-requires
+    (λ c. search needs)  -- enum-known-width
+    (λ c. search needs)  -- slice-aggregate-put-number
+    (λ c κs. search needs)  -- put-number-requires
+    (λ c. search needs)  -- enum-known-number
+    (λ c. search needs)  -- slice-aggregate-put-number-2
+    (λ c κs. search needs)  -- put-number-requires-2
+    (λ c. search needs)  -- same-length
     returns
-    same-length-2
+    (λ c. search needs)  -- same-length-2
     returns-2)

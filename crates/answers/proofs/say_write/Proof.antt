@@ -14,33 +14,6 @@ use borrow.Author.Needs.{needs}
 use Rattle.answers.proofs.say_write.Statement.{statement}
 use Rattle.answers.proofs.say_write.Tie as tie
 
-write-requires : tie.Need-write-requires
-write-requires c κs = search needs
-
-enum-known-width : tie.Need-enum-known-width
-enum-known-width c = search needs
-
-slice-aggregate-put-number-and-bytes : tie.Need-slice-aggregate-put-number-and-bytes
-slice-aggregate-put-number-and-bytes c = search needs
-
-put-number-and-bytes-requires : tie.Need-put-number-and-bytes-requires
-put-number-and-bytes-requires c κs = search needs
-
-enum-known-number : tie.Need-enum-known-number
-enum-known-number c = search needs
-
-slice-aggregate-put-number-and-bytes-2 : tie.Need-slice-aggregate-put-number-and-bytes-2
-slice-aggregate-put-number-and-bytes-2 c = search needs
-
-put-number-and-bytes-requires-2 : tie.Need-put-number-and-bytes-requires-2
-put-number-and-bytes-requires-2 c κs = search needs
-
-same-length : tie.Need-same-length
-same-length c = search needs
-
-same-length-2 : tie.Need-same-length-2
-same-length-2 c = search needs
-
 returns : tie.Need-returns
 returns c =
     let width = c .before .before .before .before .before .before .before .width in
@@ -49,12 +22,6 @@ returns c =
     let put = c .before .before .put-number-and-bytes in
     let e : result (width .given .0 .0) ≡ writeOf (args .value) (length (now (args .buffer))) = rw (width .given .1) at (write .ensures .is) in
     rw (← e, ← (write .ensures .output)) (says-result (widthWord ∷ decimalText (width .given .0 .0) ∷ (space ∷ []) ∷ shownText (write .last .1 .0) ∷ []) (put .result) (now (args .out)) (put .last .0) (put .ensures))
-
-same-length-3 : tie.Need-same-length-3
-same-length-3 c = search needs
-
-same-length-4 : tie.Need-same-length-4
-same-length-4 c = search needs
 
 returns-2 : tie.Need-returns-2
 returns-2 c =
@@ -69,16 +36,16 @@ pub say-write-spec : {M : Type 1} → statement M
 say-write-spec =
     tie.close
     (tie.spec
-    write-requires
-    enum-known-width
-    slice-aggregate-put-number-and-bytes
-    put-number-and-bytes-requires
-    enum-known-number
-    slice-aggregate-put-number-and-bytes-2
-    put-number-and-bytes-requires-2
-    same-length
-    same-length-2
+    (λ c κs. search needs)  -- write-requires
+    (λ c. search needs)  -- enum-known-width
+    (λ c. search needs)  -- slice-aggregate-put-number-and-bytes
+    (λ c κs. search needs)  -- put-number-and-bytes-requires
+    (λ c. search needs)  -- enum-known-number
+    (λ c. search needs)  -- slice-aggregate-put-number-and-bytes-2
+    (λ c κs. search needs)  -- put-number-and-bytes-requires-2
+    (λ c. search needs)  -- same-length
+    (λ c. search needs)  -- same-length-2
     returns
-    same-length-3
-    same-length-4
+    (λ c. search needs)  -- same-length-3
+    (λ c. search needs)  -- same-length-4
     returns-2)

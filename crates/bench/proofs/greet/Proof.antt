@@ -10,37 +10,10 @@ use borrow.Author.Needs.{needs}
 use Rattle.bench.proofs.greet.Statement.{statement}
 use Rattle.bench.proofs.greet.Tie as tie
 
-generate-client-hello-requires : tie.Need-generate-client-hello-requires
-generate-client-hello-requires c κs = search needs
-
-reassemble-crypto-requires : tie.Need-reassemble-crypto-requires
-reassemble-crypto-requires c κs = search needs
-
-end-of-requires : tie.Need-end-of-requires
-end-of-requires c κs = search needs
-
-sub-parse-clienthello : tie.Need-sub-parse-clienthello
-sub-parse-clienthello c = search needs
-
-part-parse-clienthello-start : tie.Need-part-parse-clienthello-start
-part-parse-clienthello-start c = search needs
-
 part-parse-clienthello-end : tie.Need-part-parse-clienthello-end
 part-parse-clienthello-end c =
     let joined = c .before .before .before .before .before .before .reassemble-crypto in
     omega (arith, end-inside (joined .ensures), joined .kept)
-
-parse-clienthello-requires : tie.Need-parse-clienthello-requires
-parse-clienthello-requires c κs = search needs
-
-same-length : tie.Need-same-length
-same-length c = search needs
-
-same-length-2 : tie.Need-same-length-2
-same-length-2 c = search needs
-
-same-length-3 : tie.Need-same-length-3
-same-length-3 c = search needs
 
 returns : tie.Need-returns
 returns c =
@@ -59,14 +32,14 @@ pub greet-spec : {M : Type 1} → statement M
 greet-spec =
     tie.close
     (tie.spec
-    generate-client-hello-requires
-    reassemble-crypto-requires
-    end-of-requires
-    sub-parse-clienthello
-    part-parse-clienthello-start
+    (λ c κs. search needs)  -- generate-client-hello-requires
+    (λ c κs. search needs)  -- reassemble-crypto-requires
+    (λ c κs. search needs)  -- end-of-requires
+    (λ c. search needs)  -- sub-parse-clienthello
+    (λ c. search needs)  -- part-parse-clienthello-start
     part-parse-clienthello-end
-    parse-clienthello-requires
-    same-length
-    same-length-2
-    same-length-3
+    (λ c κs. search needs)  -- parse-clienthello-requires
+    (λ c. search needs)  -- same-length
+    (λ c. search needs)  -- same-length-2
+    (λ c. search needs)  -- same-length-3
     returns)

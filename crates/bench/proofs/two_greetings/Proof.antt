@@ -11,57 +11,15 @@ use borrow.Author.Needs.{needs}
 use Rattle.bench.proofs.two_greetings.Statement.{statement}
 use Rattle.bench.proofs.two_greetings.Tie as tie
 
-greet-requires : tie.Need-greet-requires
-greet-requires c κs = search needs
-
-greet-requires-2 : tie.Need-greet-requires-2
-greet-requires-2 c κs = search needs
-
-end-of-requires : tie.Need-end-of-requires
-end-of-requires c κs = search needs
-
-end-of-requires-2 : tie.Need-end-of-requires-2
-end-of-requires-2 c κs = search needs
-
-sub-alike : tie.Need-sub-alike
-sub-alike c = search needs
-
-part-alike-start : tie.Need-part-alike-start
-part-alike-start c = search needs
-
 part-alike-end : tie.Need-part-alike-end
 part-alike-end c =
     let greeted = c .before .before .before .before .before .before .before .before .before .before .before .before .before .before .before .before .before .before .before .greet in
     omega (arith, end-inside (greeted .ensures .joined), greeted .kept)
 
-sub-alike-2 : tie.Need-sub-alike-2
-sub-alike-2 c = search needs
-
-part-alike-start-2 : tie.Need-part-alike-start-2
-part-alike-start-2 c = search needs
-
 part-alike-end-2 : tie.Need-part-alike-end-2
 part-alike-end-2 c =
     let greeted = c .before .before .before .before .before .before .before .before .before .before .before .greet2 in
     omega (arith, end-inside (greeted .ensures .joined), greeted .kept)
-
-alike-requires : tie.Need-alike-requires
-alike-requires c κs = search needs
-
-same-length : tie.Need-same-length
-same-length c = search needs
-
-same-length-2 : tie.Need-same-length-2
-same-length-2 c = search needs
-
-same-length-3 : tie.Need-same-length-3
-same-length-3 c = search needs
-
-same-length-4 : tie.Need-same-length-4
-same-length-4 c = search needs
-
-same-length-5 : tie.Need-same-length-5
-same-length-5 c = search needs
 
 returns : tie.Need-returns
 returns c =
@@ -84,20 +42,20 @@ pub two-greetings-spec : {M : Type 1} → statement M
 two-greetings-spec =
     tie.close
     (tie.spec
-    greet-requires
-    greet-requires-2
-    end-of-requires
-    end-of-requires-2
-    sub-alike
-    part-alike-start
+    (λ c κs. search needs)  -- greet-requires
+    (λ c κs. search needs)  -- greet-requires-2
+    (λ c κs. search needs)  -- end-of-requires
+    (λ c κs. search needs)  -- end-of-requires-2
+    (λ c. search needs)  -- sub-alike
+    (λ c. search needs)  -- part-alike-start
     part-alike-end
-    sub-alike-2
-    part-alike-start-2
+    (λ c. search needs)  -- sub-alike-2
+    (λ c. search needs)  -- part-alike-start-2
     part-alike-end-2
-    alike-requires
-    same-length
-    same-length-2
-    same-length-3
-    same-length-4
-    same-length-5
+    (λ c κs. search needs)  -- alike-requires
+    (λ c. search needs)  -- same-length
+    (λ c. search needs)  -- same-length-2
+    (λ c. search needs)  -- same-length-3
+    (λ c. search needs)  -- same-length-4
+    (λ c. search needs)  -- same-length-5
     returns)

@@ -6,17 +6,8 @@ use borrow.Author.Needs.{needs}
 use Rattle.compare_c.proofs.compare_next.Statement.{statement}
 use Rattle.compare_c.proofs.compare_next.Tie as tie
 
-next-record-requires : tie.Need-next-record-requires
-next-record-requires c κs = search needs
-
-enum-known-after : tie.Need-enum-known-after
-enum-known-after c = search needs
-
 enum-told : tie.Need-enum-told
 enum-told c = search needs
-
-enum-known-n : tie.Need-enum-known-n
-enum-known-n c = search needs
 
 add-result : tie.Need-add-result
 add-result c =
@@ -42,10 +33,10 @@ pub compare-next-spec : {M : Type 1} → statement M
 compare-next-spec =
     tie.close
     (tie.spec
-    next-record-requires
-    enum-known-after
+    (λ c κs. search needs)  -- next-record-requires
+    (λ c. search needs)  -- enum-known-after
     enum-told
-    enum-known-n
+    (λ c. search needs)  -- enum-known-n
     add-result
     returns
     returns-2

@@ -15,81 +15,6 @@ returns c =
     let args = c .before .before .args in
     no-place (parsedOf (read (now (args .hello)))) (args .place) (c .if1 .taken)
 
-parse-clienthello-requires : tie.Need-parse-clienthello-requires
-parse-clienthello-requires c κs = search needs
-
-mul-extension : tie.Need-mul-extension
-mul-extension c = search needs
-
-element-copy-out-extension : tie.Need-element-copy-out-extension
-element-copy-out-extension c = search needs
-
-mul-group : tie.Need-mul-group
-mul-group c = search needs
-
-element-copy-out-group : tie.Need-element-copy-out-group
-element-copy-out-group c = search needs
-
-mul-share : tie.Need-mul-share
-mul-share c = search needs
-
-element-copy-out-share : tie.Need-element-copy-out-share
-element-copy-out-share c = search needs
-
-mul-name : tie.Need-mul-name
-mul-name c = search needs
-
-element-copy-out-name : tie.Need-element-copy-out-name
-element-copy-out-name c = search needs
-
-mul-add-word : tie.Need-mul-add-word
-mul-add-word c = search needs
-
-element-copy-out-add-word : tie.Need-element-copy-out-add-word
-element-copy-out-add-word c = search needs
-
-add-word-requires : tie.Need-add-word-requires
-add-word-requires c κs = search needs
-
-add-word-requires-2 : tie.Need-add-word-requires-2
-add-word-requires-2 c κs = search needs
-
-add-word-requires-3 : tie.Need-add-word-requires-3
-add-word-requires-3 c κs = search needs
-
-add-word-requires-4 : tie.Need-add-word-requires-4
-add-word-requires-4 c κs = search needs
-
-mul-add-word-2 : tie.Need-mul-add-word-2
-mul-add-word-2 c = search needs
-
-element-copy-out-add-word-2 : tie.Need-element-copy-out-add-word-2
-element-copy-out-add-word-2 c = search needs
-
-add-word-requires-5 : tie.Need-add-word-requires-5
-add-word-requires-5 c κs = search needs
-
-mul-add-word-3 : tie.Need-mul-add-word-3
-mul-add-word-3 c = search needs
-
-element-copy-out-add-word-3 : tie.Need-element-copy-out-add-word-3
-element-copy-out-add-word-3 c = search needs
-
-add-word-requires-6 : tie.Need-add-word-requires-6
-add-word-requires-6 c κs = search needs
-
-wrapping-add-u64-requires : tie.Need-wrapping-add-u64-requires
-wrapping-add-u64-requires c κs = search needs
-
-mul-wrapping-add-u64 : tie.Need-mul-wrapping-add-u64
-mul-wrapping-add-u64 c = search needs
-
-element-copy-out-wrapping-add-u64 : tie.Need-element-copy-out-wrapping-add-u64
-element-copy-out-wrapping-add-u64 c = search needs
-
-wrapping-add-u64-requires-2 : tie.Need-wrapping-add-u64-requires-2
-wrapping-add-u64-requires-2 c κs = search needs
-
 returns-2 : tie.Need-returns-2
 returns-2 c =
     let args = c .before .before .before .before .before .before .before .before .before .before .before .before .before .before .before .before .before .before .before .args in
@@ -112,29 +37,29 @@ compare-picked-spec =
     tie.close
     (tie.spec
     returns
-    parse-clienthello-requires
-    mul-extension
-    element-copy-out-extension
-    mul-group
-    element-copy-out-group
-    mul-share
-    element-copy-out-share
-    mul-name
-    element-copy-out-name
-    mul-add-word
-    element-copy-out-add-word
-    add-word-requires
-    add-word-requires-2
-    add-word-requires-3
-    add-word-requires-4
-    mul-add-word-2
-    element-copy-out-add-word-2
-    add-word-requires-5
-    mul-add-word-3
-    element-copy-out-add-word-3
-    add-word-requires-6
-    wrapping-add-u64-requires
-    mul-wrapping-add-u64
-    element-copy-out-wrapping-add-u64
-    wrapping-add-u64-requires-2
+    (λ c κs. search needs)  -- parse-clienthello-requires
+    (λ c. search needs)  -- mul-extension
+    (λ c. search needs)  -- element-copy-out-extension
+    (λ c. search needs)  -- mul-group
+    (λ c. search needs)  -- element-copy-out-group
+    (λ c. search needs)  -- mul-share
+    (λ c. search needs)  -- element-copy-out-share
+    (λ c. search needs)  -- mul-name
+    (λ c. search needs)  -- element-copy-out-name
+    (λ c. search needs)  -- mul-add-word
+    (λ c. search needs)  -- element-copy-out-add-word
+    (λ c κs. search needs)  -- add-word-requires
+    (λ c κs. search needs)  -- add-word-requires-2
+    (λ c κs. search needs)  -- add-word-requires-3
+    (λ c κs. search needs)  -- add-word-requires-4
+    (λ c. search needs)  -- mul-add-word-2
+    (λ c. search needs)  -- element-copy-out-add-word-2
+    (λ c κs. search needs)  -- add-word-requires-5
+    (λ c. search needs)  -- mul-add-word-3
+    (λ c. search needs)  -- element-copy-out-add-word-3
+    (λ c κs. search needs)  -- add-word-requires-6
+    (λ c κs. search needs)  -- wrapping-add-u64-requires
+    (λ c. search needs)  -- mul-wrapping-add-u64
+    (λ c. search needs)  -- element-copy-out-wrapping-add-u64
+    (λ c κs. search needs)  -- wrapping-add-u64-requires-2
     returns-2)

@@ -8,18 +8,6 @@ use borrow.Author.Needs.{needs}
 use Rattle.compare_c.proofs.compare_report.Statement.{statement}
 use Rattle.compare_c.proofs.compare_report.Tie as tie
 
-say-report-requires : tie.Need-say-report-requires
-say-report-requires c κs = search needs
-
-enum-known-n : tie.Need-enum-known-n
-enum-known-n c = search needs
-
-enum-known-n-2 : tie.Need-enum-known-n-2
-enum-known-n-2 c = search needs
-
-enum-known-number : tie.Need-enum-known-number
-enum-known-number c = search needs
-
 add-result : tie.Need-add-result
 add-result c =
     let args = c .before .before .before .before .before .before .before .before .before .args in
@@ -30,17 +18,11 @@ add-result c =
 enum-told : tie.Need-enum-told
 enum-told c = search needs
 
-same-length : tie.Need-same-length
-same-length c = search needs
-
 returns : tie.Need-returns
 returns c =
     let args = c .before .before .before .before .before .before .before .before .before .args in
     let say-report = c .before .before .before .before .before .say-report in
     rw (c .before .n .given .1) at (report-coded (say-report .result) (now (args .out)) _ (read (now (args .hello))) (say-report .ensures))
-
-same-length-2 : tie.Need-same-length-2
-same-length-2 c = search needs
 
 returns-2 : tie.Need-returns-2
 returns-2 c =
@@ -48,17 +30,11 @@ returns-2 c =
     let say-report = c .before .before .before .before .before .say-report in
     rw (c .before .n2 .given .1) at (report-coded (say-report .result) (now (args .out)) _ (read (now (args .hello))) (say-report .ensures))
 
-same-length-3 : tie.Need-same-length-3
-same-length-3 c = search needs
-
 returns-3 : tie.Need-returns-3
 returns-3 c =
     let args = c .before .before .before .before .before .before .before .before .before .args in
     let say-report = c .before .before .before .before .before .say-report in
     rw (c .before .number .given .1) at (report-coded (say-report .result) (now (args .out)) _ (read (now (args .hello))) (say-report .ensures))
-
-same-length-4 : tie.Need-same-length-4
-same-length-4 c = search needs
 
 returns-4 : tie.Need-returns-4
 returns-4 c =
@@ -70,17 +46,17 @@ pub compare-report-spec : {M : Type 1} → statement M
 compare-report-spec =
     tie.close
     (tie.spec
-    say-report-requires
-    enum-known-n
-    enum-known-n-2
-    enum-known-number
+    (λ c κs. search needs)  -- say-report-requires
+    (λ c. search needs)  -- enum-known-n
+    (λ c. search needs)  -- enum-known-n-2
+    (λ c. search needs)  -- enum-known-number
     add-result
     enum-told
-    same-length
+    (λ c. search needs)  -- same-length
     returns
-    same-length-2
+    (λ c. search needs)  -- same-length-2
     returns-2
-    same-length-3
+    (λ c. search needs)  -- same-length-3
     returns-3
-    same-length-4
+    (λ c. search needs)  -- same-length-4
     returns-4)

@@ -19,14 +19,8 @@ bounds c =
     let h = now (c .before .before .before .before .before .args .hello) in
     subst (λ (x : Stop). StopBounds (length h) x) (c .before .number .given .1) (c .before .before .before .stopped-at .ensures .1)
 
-stopped-at-requires : tie.Need-stopped-at-requires
-stopped-at-requires c κs = search needs
-
 enum-told : tie.Need-enum-told
 enum-told c = search needs
-
-enum-known-number : tie.Need-enum-known-number
-enum-known-number c = search needs
 
 mul-result : tie.Need-mul-result
 mul-result c = omega (arith, bounds c .0 .1)
@@ -44,9 +38,9 @@ pub compare-stopped-spec : {M : Type 1} → statement M
 compare-stopped-spec =
     tie.close
     (tie.spec
-    stopped-at-requires
+    (λ c κs. search needs)  -- stopped-at-requires
     enum-told
-    enum-known-number
+    (λ c. search needs)  -- enum-known-number
     mul-result
     add-result
     returns

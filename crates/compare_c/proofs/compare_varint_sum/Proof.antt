@@ -46,18 +46,6 @@ bounds c =
 loop-holds : tie.Need-loop-holds Inv-loop μ-loop
 loop-holds c = starts (now (c .before .args .input))
 
-sub-read : tie.Need-sub-read Inv-loop μ-loop
-sub-read c = omega arith
-
-part-read-start : tie.Need-part-read-start Inv-loop μ-loop
-part-read-start c = search needs
-
-part-read-end : tie.Need-part-read-end Inv-loop μ-loop
-part-read-end c = search needs
-
-read-requires : tie.Need-read-requires Inv-loop μ-loop
-read-requires c κs = search needs
-
 enum-known-x : tie.Need-enum-known-x Inv-loop μ-loop
 enum-known-x c = omega (arith, c .match .keys1)
 
@@ -105,10 +93,10 @@ compare-varint-sum-spec =
     Inv-loop
     μ-loop
     loop-holds
-    sub-read
-    part-read-start
-    part-read-end
-    read-requires
+    (λ c. omega arith)  -- sub-read
+    (λ c. search needs)  -- part-read-start
+    (λ c. search needs)  -- part-read-end
+    (λ c κs. search needs)  -- read-requires
     enum-known-x
     wrapping-add-u64-requires
     add-at

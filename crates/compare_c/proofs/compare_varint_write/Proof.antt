@@ -6,29 +6,14 @@ use borrow.Author.Needs.{needs}
 use Rattle.compare_c.proofs.compare_varint_write.Statement.{statement}
 use Rattle.compare_c.proofs.compare_varint_write.Tie as tie
 
-write-requires : tie.Need-write-requires
-write-requires c κs = search needs
-
-enum-known-w : tie.Need-enum-known-w
-enum-known-w c = search needs
-
-enum-known-n : tie.Need-enum-known-n
-enum-known-n c = search needs
-
 add-result : tie.Need-add-result
 add-result c = omega (arith, rw (c .before .n .given .1) at (c .before .before .before .before .before .write .ensures .bounds))
-
-same-length : tie.Need-same-length
-same-length c = search needs
 
 returns : tie.Need-returns
 returns c =
     let w = c .before .w in
     let write = c .before .before .before .before .before .write in
     record { is = ap coded (rw (w .given .1) at (write .ensures .is)); output = (write .ensures .output) }
-
-same-length-2 : tie.Need-same-length-2
-same-length-2 c = search needs
 
 returns-2 : tie.Need-returns-2
 returns-2 c =
@@ -40,11 +25,11 @@ pub compare-varint-write-spec : {M : Type 1} → statement M
 compare-varint-write-spec =
     tie.close
     (tie.spec
-    write-requires
-    enum-known-w
-    enum-known-n
+    (λ c κs. search needs)  -- write-requires
+    (λ c. search needs)  -- enum-known-w
+    (λ c. search needs)  -- enum-known-n
     add-result
-    same-length
+    (λ c. search needs)  -- same-length
     returns
-    same-length-2
+    (λ c. search needs)  -- same-length-2
     returns-2)

@@ -6,30 +6,15 @@ use borrow.Author.Needs.{needs}
 use Rattle.crustdelta_c.proofs.crustdelta_frames.Statement.{statement}
 use Rattle.crustdelta_c.proofs.crustdelta_frames.Tie as tie
 
-write-frames-requires : tie.Need-write-frames-requires
-write-frames-requires c κs = search needs
-
-enum-known-length : tie.Need-enum-known-length
-enum-known-length c = search needs
-
-enum-known-n : tie.Need-enum-known-n
-enum-known-n c = search needs
-
 add-result : tie.Need-add-result
 add-result c =
     let write-frames = c .before .before .before .before .before .write-frames in
     omega (arith, rw (c .before .n .given .1) at (write-frames .ensures .bounds))
 
-same-length : tie.Need-same-length
-same-length c = search needs
-
 returns : tie.Need-returns
 returns c =
     let write-frames = c .before .before .before .before .before .write-frames in
     record { is = ap coded (rw (c .before .length .given .1) at (write-frames .ensures .is)); output = (write-frames .ensures .output) }
-
-same-length-2 : tie.Need-same-length-2
-same-length-2 c = search needs
 
 returns-2 : tie.Need-returns-2
 returns-2 c =
@@ -40,11 +25,11 @@ pub crustdelta-frames-spec : {M : Type 1} → statement M
 crustdelta-frames-spec =
     tie.close
     (tie.spec
-    write-frames-requires
-    enum-known-length
-    enum-known-n
+    (λ c κs. search needs)  -- write-frames-requires
+    (λ c. search needs)  -- enum-known-length
+    (λ c. search needs)  -- enum-known-n
     add-result
-    same-length
+    (λ c. search needs)  -- same-length
     returns
-    same-length-2
+    (λ c. search needs)  -- same-length-2
     returns-2)

@@ -8,9 +8,6 @@ use borrow.Author.Needs.{needs}
 use Rattle.crustdelta_c.proofs.crustdelta_read.Statement.{statement}
 use Rattle.crustdelta_c.proofs.crustdelta_read.Tie as tie
 
-refusal-requires : tie.Need-refusal-requires
-refusal-requires c κs = search needs
-
 add-result : tie.Need-add-result
 add-result c =
     let hello = now (c .before .before .before .args .hello) in
@@ -30,4 +27,10 @@ returns-2 c =
     one-refused (refusal .result) (read hello) (refusal .ensures) (omega arith)
 
 pub crustdelta-read-spec : {M : Type 1} → statement M
-crustdelta-read-spec = tie.close (tie.spec refusal-requires add-result returns returns-2)
+crustdelta-read-spec =
+    tie.close
+    (tie.spec
+    (λ c κs. search needs)  -- refusal-requires
+    add-result
+    returns
+    returns-2)

@@ -24,17 +24,8 @@ no-head c =
     let args = c .before .before .before .before .before .before .args in
     subst (λ (x : Head). HeadAs x (now (args .hello))) (c .before .number .given .1) (c .before .before .before .read-head .ensures)
 
-read-head-requires : tie.Need-read-head-requires
-read-head-requires c κs = search needs
-
-enum-known-session : tie.Need-enum-known-session
-enum-known-session c = search needs
-
 survey-block-requires : tie.Need-survey-block-requires
 survey-block-requires c κs = (head (c .before .before) .inside, head (c .before .before) .short, refl, refl)
-
-add-result : tie.Need-add-result
-add-result c = search needs
 
 returns : tie.Need-returns
 returns c =
@@ -60,14 +51,8 @@ put-report-requires c κs =
     let bytes : Bytes (now (args .hello)) = λ i. (shared-slice-known .given) i .fits in
     (search needs, readable head s, length-types head s, length-ids bytes (read-result head s) (found-of head s))
 
-enum-known-number : tie.Need-enum-known-number
-enum-known-number c = search needs
-
 add-result-2 : tie.Need-add-result-2
 add-result-2 c = omega (arith, no-head c .1 .1)
-
-same-length : tie.Need-same-length
-same-length c = search needs
 
 returns-3 : tie.Need-returns-3
 returns-3 c =
@@ -90,15 +75,15 @@ pub crustdelta-report-spec : {M : Type 1} → statement M
 crustdelta-report-spec =
     tie.close
     (tie.spec
-    read-head-requires
-    enum-known-session
+    (λ c κs. search needs)  -- read-head-requires
+    (λ c. search needs)  -- enum-known-session
     survey-block-requires
-    add-result
+    (λ c. search needs)  -- add-result
     returns
     returns-2
     put-report-requires
-    enum-known-number
+    (λ c. search needs)  -- enum-known-number
     add-result-2
-    same-length
+    (λ c. search needs)  -- same-length
     returns-3
     returns-4)

@@ -36,21 +36,6 @@ fits c = omega (arith, found c .within, length-drop (c .before .before .before .
 loop-holds : tie.Need-loop-holds Inv-loop μ-loop
 loop-holds c = (zero-le, zero-le, count-start oneShare (c .before .args .list .now))
 
-sub-one-share : tie.Need-sub-one-share Inv-loop μ-loop
-sub-one-share c = search needs
-
-part-one-share-start : tie.Need-part-one-share-start Inv-loop μ-loop
-part-one-share-start c = search needs
-
-part-one-share-end : tie.Need-part-one-share-end Inv-loop μ-loop
-part-one-share-end c = search needs
-
-one-share-requires : tie.Need-one-share-requires Inv-loop μ-loop
-one-share-requires c κs = search needs
-
-enum-known-used : tie.Need-enum-known-used Inv-loop μ-loop
-enum-known-used c = search needs
-
 enum-told : tie.Need-enum-told Inv-loop μ-loop
 enum-told c = search needs
 
@@ -62,9 +47,6 @@ returns c =
 
 add-at : tie.Need-add-at Inv-loop μ-loop
 add-at c = omega (arith, fits c)
-
-add-k : tie.Need-add-k Inv-loop μ-loop
-add-k c = search needs
 
 loop-less : tie.Need-loop-less Inv-loop μ-loop
 loop-less c = omega (arith, fits c, (found c) .some)
@@ -96,15 +78,15 @@ ask-entries-spec =
     Inv-loop
     μ-loop
     loop-holds
-    sub-one-share
-    part-one-share-start
-    part-one-share-end
-    one-share-requires
-    enum-known-used
+    (λ c. search needs)  -- sub-one-share
+    (λ c. search needs)  -- part-one-share-start
+    (λ c. search needs)  -- part-one-share-end
+    (λ c κs. search needs)  -- one-share-requires
+    (λ c. search needs)  -- enum-known-used
     enum-told
     returns
     add-at
-    add-k
+    (λ c. search needs)  -- add-k
     loop-less
     loop-again
     returns-2

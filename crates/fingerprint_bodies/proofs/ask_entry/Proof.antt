@@ -18,24 +18,9 @@ returns : tie.Need-returns
 unfolding formed
 returns c = sym (ap (λ (x : Option (List ℕ)). formed x) (entry-few (c .before .before .args .list .now) (c .if1 .taken)))
 
-shared-slice-read-if2 : tie.Need-shared-slice-read-if2
-shared-slice-read-if2 c = search needs
-
 returns-2 : tie.Need-returns-2
 unfolding formed
 returns-2 c = sym (ap (λ (x : Option (List ℕ)). formed x) (entry-type (c .before .before .before .before .args .list .now) (search needs) (c .if2 .taken)))
-
-sub-is-whole : tie.Need-sub-is-whole
-sub-is-whole c = search needs
-
-part-is-whole-start : tie.Need-part-is-whole-start
-part-is-whole-start c = search needs
-
-part-is-whole-end : tie.Need-part-is-whole-end
-part-is-whole-end c = search needs
-
-is-whole-requires : tie.Need-is-whole-requires
-is-whole-requires c κs = search needs
 
 returns-3 : tie.Need-returns-3
 unfolding formed
@@ -50,11 +35,11 @@ ask-entry-spec =
     tie.close
     (tie.spec
     returns
-    shared-slice-read-if2
+    (λ c. search needs)  -- shared-slice-read-if2
     returns-2
-    sub-is-whole
-    part-is-whole-start
-    part-is-whole-end
-    is-whole-requires
+    (λ c. search needs)  -- sub-is-whole
+    (λ c. search needs)  -- part-is-whole-start
+    (λ c. search needs)  -- part-is-whole-end
+    (λ c κs. search needs)  -- is-whole-requires
     returns-3
     returns-4)

@@ -11,20 +11,11 @@ use borrow.Author.Needs.{needs}
 use Rattle.fingerprint_bodies.proofs.ask_name.Statement.{statement}
 use Rattle.fingerprint_bodies.proofs.ask_name.Tie as tie
 
-is-whole-requires : tie.Need-is-whole-requires
-is-whole-requires c κs = search needs
-
 sub-ask-entry : tie.Need-sub-ask-entry
 sub-ask-entry c = whole-reaches 2 (c .before .before .before .args .body .now) (sym (c .before .is-whole .ensures) ∙ (c .if1 .taken))
 
 part-ask-entry-start : tie.Need-part-ask-entry-start
 part-ask-entry-start c = whole-reaches 2 (c .before .before .before .args .body .now) (sym (c .before .is-whole .ensures) ∙ (c .if1 .taken))
-
-part-ask-entry-end : tie.Need-part-ask-entry-end
-part-ask-entry-end c = search needs
-
-ask-entry-requires : tie.Need-ask-entry-requires
-ask-entry-requires c κs = search needs
 
 returns : tie.Need-returns
 unfolding serverName
@@ -43,10 +34,10 @@ pub ask-name-spec : {M : Type 1} → statement M
 ask-name-spec =
     tie.close
     (tie.spec
-    is-whole-requires
+    (λ c κs. search needs)  -- is-whole-requires
     sub-ask-entry
     part-ask-entry-start
-    part-ask-entry-end
-    ask-entry-requires
+    (λ c. search needs)  -- part-ask-entry-end
+    (λ c κs. search needs)  -- ask-entry-requires
     returns
     returns-2)

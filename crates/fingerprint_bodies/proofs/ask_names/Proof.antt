@@ -36,21 +36,6 @@ fits c = omega (arith, found c .within, length-drop (c .before .before .before .
 loop-holds : tie.Need-loop-holds Inv-loop μ-loop
 loop-holds c = (zero-le, zero-le, count-start oneName (c .before .args .list .now))
 
-sub-one-name : tie.Need-sub-one-name Inv-loop μ-loop
-sub-one-name c = search needs
-
-part-one-name-start : tie.Need-part-one-name-start Inv-loop μ-loop
-part-one-name-start c = search needs
-
-part-one-name-end : tie.Need-part-one-name-end Inv-loop μ-loop
-part-one-name-end c = search needs
-
-one-name-requires : tie.Need-one-name-requires Inv-loop μ-loop
-one-name-requires c κs = search needs
-
-enum-known-length : tie.Need-enum-known-length Inv-loop μ-loop
-enum-known-length c = search needs
-
 enum-told : tie.Need-enum-told Inv-loop μ-loop
 enum-told c = search needs
 
@@ -65,9 +50,6 @@ add-at c = omega (arith, fits c)
 
 add-at-2 : tie.Need-add-at-2 Inv-loop μ-loop
 add-at-2 c = omega (arith, fits c)
-
-add-k : tie.Need-add-k Inv-loop μ-loop
-add-k c = search needs
 
 loop-less : tie.Need-loop-less Inv-loop μ-loop
 loop-less c = omega (arith, fits c)
@@ -108,16 +90,16 @@ ask-names-spec =
     Inv-loop
     μ-loop
     loop-holds
-    sub-one-name
-    part-one-name-start
-    part-one-name-end
-    one-name-requires
-    enum-known-length
+    (λ c. search needs)  -- sub-one-name
+    (λ c. search needs)  -- part-one-name-start
+    (λ c. search needs)  -- part-one-name-end
+    (λ c κs. search needs)  -- one-name-requires
+    (λ c. search needs)  -- enum-known-length
     enum-told
     returns
     add-at
     add-at-2
-    add-k
+    (λ c. search needs)  -- add-k
     loop-less
     loop-again
     returns-2

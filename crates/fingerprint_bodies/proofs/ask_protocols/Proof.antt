@@ -11,20 +11,11 @@ use borrow.Author.Needs.{needs}
 use Rattle.fingerprint_bodies.proofs.ask_protocols.Statement.{statement}
 use Rattle.fingerprint_bodies.proofs.ask_protocols.Tie as tie
 
-is-whole-requires : tie.Need-is-whole-requires
-is-whole-requires c κs = search needs
-
 sub-ask-names : tie.Need-sub-ask-names
 sub-ask-names c = whole-reaches 2 (c .before .before .before .args .body .now) (sym (c .before .is-whole .ensures) ∙ (c .if1 .taken))
 
 part-ask-names-start : tie.Need-part-ask-names-start
 part-ask-names-start c = whole-reaches 2 (c .before .before .before .args .body .now) (sym (c .before .is-whole .ensures) ∙ (c .if1 .taken))
-
-part-ask-names-end : tie.Need-part-ask-names-end
-part-ask-names-end c = search needs
-
-ask-names-requires : tie.Need-ask-names-requires
-ask-names-requires c κs = search needs
 
 returns : tie.Need-returns
 unfolding protocolNames
@@ -43,10 +34,10 @@ pub ask-protocols-spec : {M : Type 1} → statement M
 ask-protocols-spec =
     tie.close
     (tie.spec
-    is-whole-requires
+    (λ c κs. search needs)  -- is-whole-requires
     sub-ask-names
     part-ask-names-start
-    part-ask-names-end
-    ask-names-requires
+    (λ c. search needs)  -- part-ask-names-end
+    (λ c κs. search needs)  -- ask-names-requires
     returns
     returns-2)

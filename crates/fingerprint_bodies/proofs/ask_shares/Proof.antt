@@ -13,20 +13,11 @@ use borrow.Author.Needs.{needs}
 use Rattle.fingerprint_bodies.proofs.ask_shares.Statement.{statement}
 use Rattle.fingerprint_bodies.proofs.ask_shares.Tie as tie
 
-is-whole-requires : tie.Need-is-whole-requires
-is-whole-requires c κs = search needs
-
 sub-ask-entries : tie.Need-sub-ask-entries
 sub-ask-entries c = whole-reaches 2 (c .before .before .before .args .body .now) (sym (c .before .is-whole .ensures) ∙ (c .if1 .taken))
 
 part-ask-entries-start : tie.Need-part-ask-entries-start
 part-ask-entries-start c = whole-reaches 2 (c .before .before .before .args .body .now) (sym (c .before .is-whole .ensures) ∙ (c .if1 .taken))
-
-part-ask-entries-end : tie.Need-part-ask-entries-end
-part-ask-entries-end c = search needs
-
-ask-entries-requires : tie.Need-ask-entries-requires
-ask-entries-requires c κs = search needs
 
 returns : tie.Need-returns
 unfolding keyShares
@@ -45,10 +36,10 @@ pub ask-shares-spec : {M : Type 1} → statement M
 ask-shares-spec =
     tie.close
     (tie.spec
-    is-whole-requires
+    (λ c κs. search needs)  -- is-whole-requires
     sub-ask-entries
     part-ask-entries-start
-    part-ask-entries-end
-    ask-entries-requires
+    (λ c. search needs)  -- part-ask-entries-end
+    (λ c κs. search needs)  -- ask-entries-requires
     returns
     returns-2)

@@ -12,29 +12,11 @@ use Rattle.fingerprint_bodies.proofs.is_whole.Tie as tie
 returns : tie.Need-returns
 returns c = sym (whole-few (c .before .before .args .width) (c .before .before .args .body .now) (c .if1 .taken))
 
-shared-slice-read-wide : tie.Need-shared-slice-read-wide
-shared-slice-read-wide c = search needs
-
-wide-requires : tie.Need-wide-requires
-wide-requires c κs = search needs
-
-sub-result : tie.Need-sub-result
-sub-result c = search needs
-
 returns-2 : tie.Need-returns-2
 returns-2 c =
     let one : (c .before .before .before .before .before .args .width) ≡ 1 = c .before .before .if2 .taken in
     let h : 1 ≤ length (c .before .before .before .before .before .args .body .now) = search needs in
     rw one (whole-asked 1 (c .before .before .before .before .before .args .body .now) (c .wide .result) ((c .wide .ensures .0) ∙ sym (number-one (c .before .before .before .before .before .args .body .now) h)) h)
-
-be16-requires : tie.Need-be16-requires
-be16-requires c κs = search needs
-
-cast-result : tie.Need-cast-result
-cast-result c = search needs
-
-sub-result-2 : tie.Need-sub-result-2
-sub-result-2 c = search needs
 
 returns-3 : tie.Need-returns-3
 returns-3 c =
@@ -46,11 +28,11 @@ is-whole-spec =
     tie.close
     (tie.spec
     returns
-    shared-slice-read-wide
-    wide-requires
-    sub-result
+    (λ c. search needs)  -- shared-slice-read-wide
+    (λ c κs. search needs)  -- wide-requires
+    (λ c. search needs)  -- sub-result
     returns-2
-    be16-requires
-    cast-result
-    sub-result-2
+    (λ c κs. search needs)  -- be16-requires
+    (λ c. search needs)  -- cast-result
+    (λ c. search needs)  -- sub-result-2
     returns-3)

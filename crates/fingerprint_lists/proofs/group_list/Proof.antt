@@ -13,9 +13,6 @@ use Rattle.fingerprint_lists.proofs.group_list.Tie as tie
 holds : (c : tie.Start) → HoldsWords (drop 2 (c .args .body .now)) (wordList 2 (c .args .body .now))
 holds c = words-after 2 (c .args .body .now) (omega arith) (c .pre)
 
-after-requires : tie.Need-after-requires
-after-requires c κs = search needs
-
 groups-in-requires : tie.Need-groups-in-requires
 groups-in-requires c κs = rw (c .after .ensures) ((holds (c .before .before)) .few)
 
@@ -23,4 +20,9 @@ returns : tie.Need-returns
 returns c = (c .groups-in .ensures) ∙ ap (λ (l : List ℕ). groupsOf (wordsIn l)) (c .before .after .ensures) ∙ ap groupsOf ((holds (c .before .before .before)) .is)
 
 pub group-list-spec : {M : Type 1} → statement M
-group-list-spec = tie.close (tie.spec after-requires groups-in-requires returns)
+group-list-spec =
+    tie.close
+    (tie.spec
+    (λ c κs. search needs)  -- after-requires
+    groups-in-requires
+    returns)

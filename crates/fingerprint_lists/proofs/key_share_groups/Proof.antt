@@ -10,9 +10,6 @@ use borrow.Author.Needs.{needs}
 use Rattle.fingerprint_lists.proofs.key_share_groups.Statement.{statement}
 use Rattle.fingerprint_lists.proofs.key_share_groups.Tie as tie
 
-after-requires : tie.Need-after-requires
-after-requires c κs = search needs
-
 shares-requires : tie.Need-shares-requires
 shares-requires c κs = rw (c .after .ensures) (shares-after (c .before .before .args .body .now) (c .before .before .pre) .found)
 
@@ -23,4 +20,9 @@ returns c =
     ∙ ap (λ (l : List Share). groupsOf (map groupOf l)) (shares-after (c .before .before .before .args .body .now) (c .before .before .before .pre) .is)
 
 pub key-share-groups-spec : {M : Type 1} → statement M
-key-share-groups-spec = tie.close (tie.spec after-requires shares-requires returns)
+key-share-groups-spec =
+    tie.close
+    (tie.spec
+    (λ c κs. search needs)  -- after-requires
+    shares-requires
+    returns)

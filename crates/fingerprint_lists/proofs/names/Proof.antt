@@ -82,12 +82,6 @@ part-one-name-start c = omega (arith, c .loop-test .taken)
 part-one-name-end : tie.Need-part-one-name-end Inv-loop μ-loop
 part-one-name-end c = omega (arith, c .loop-test .taken)
 
-one-name-requires : tie.Need-one-name-requires Inv-loop μ-loop
-one-name-requires c κs = search needs
-
-enum-known-length : tie.Need-enum-known-length Inv-loop μ-loop
-enum-known-length c = search needs
-
 enum-told : tie.Need-enum-told Inv-loop μ-loop
 enum-told c = search needs
 
@@ -151,8 +145,8 @@ names-spec =
     sub-one-name
     part-one-name-start
     part-one-name-end
-    one-name-requires
-    enum-known-length
+    (λ c κs. search needs)  -- one-name-requires
+    (λ c. search needs)  -- enum-known-length
     enum-told
     add-t12
     add-t15

@@ -12,15 +12,6 @@ use borrow.Author.Needs.{needs}
 use Rattle.fingerprint_lists.proofs.protocol_names.Statement.{statement}
 use Rattle.fingerprint_lists.proofs.protocol_names.Tie as tie
 
-sub-names : tie.Need-sub-names
-sub-names c = search needs
-
-part-names-start : tie.Need-part-names-start
-part-names-start c = search needs
-
-part-names-end : tie.Need-part-names-end
-part-names-end c = search needs
-
 names-requires : tie.Need-names-requires
 unfolding allEntries entries orEmpty
 names-requires c κs = (record { there = refl; few = omega arith }, omega arith)
@@ -32,18 +23,6 @@ returns c =
     let none-after : drop 2 s ≡ [] = drop-of-length-le s {i = 2} (omega (arith, c .before .before .if1 .taken)) in
     let is : [] ≡ orEmpty (protocolNames s) = rw none-after at (names-after s (c .before .before .before .before .pre .0) .is) in
     (c .names .ensures) ∙ ap (λ (l : List (List ℕ)). spansOf (placed ((c .before .before .before .before .args .start) + 2) l)) is
-
-sub-names-2 : tie.Need-sub-names-2
-sub-names-2 c = search needs
-
-part-names-start-2 : tie.Need-part-names-start-2
-part-names-start-2 c = search needs
-
-part-names-end-2 : tie.Need-part-names-end-2
-part-names-end-2 c = search needs
-
-add-names : tie.Need-add-names
-add-names c = search needs
 
 names-requires-2 : tie.Need-names-requires-2
 names-requires-2 c κs =
@@ -61,14 +40,14 @@ pub protocol-names-spec : {M : Type 1} → statement M
 protocol-names-spec =
     tie.close
     (tie.spec
-    sub-names
-    part-names-start
-    part-names-end
+    (λ c. search needs)  -- sub-names
+    (λ c. search needs)  -- part-names-start
+    (λ c. search needs)  -- part-names-end
     names-requires
     returns
-    sub-names-2
-    part-names-start-2
-    part-names-end-2
-    add-names
+    (λ c. search needs)  -- sub-names-2
+    (λ c. search needs)  -- part-names-start-2
+    (λ c. search needs)  -- part-names-end-2
+    (λ c. search needs)  -- add-names
     names-requires-2
     returns-2)

@@ -73,12 +73,6 @@ part-one-share-start c = omega (arith, c .loop-test .taken)
 part-one-share-end : tie.Need-part-one-share-end Inv-loop μ-loop
 part-one-share-end c = omega (arith, c .loop-test .taken)
 
-one-share-requires : tie.Need-one-share-requires Inv-loop μ-loop
-one-share-requires c κs = search needs
-
-enum-known-group : tie.Need-enum-known-group Inv-loop μ-loop
-enum-known-group c = search needs
-
 enum-told : tie.Need-enum-told Inv-loop μ-loop
 enum-told c = search needs
 
@@ -128,8 +122,8 @@ shares-spec =
     sub-one-share
     part-one-share-start
     part-one-share-end
-    one-share-requires
-    enum-known-group
+    (λ c κs. search needs)  -- one-share-requires
+    (λ c. search needs)  -- enum-known-group
     enum-told
     mul-items
     array-set-from-items

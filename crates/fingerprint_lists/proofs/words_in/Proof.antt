@@ -22,32 +22,8 @@ abbrev μ-loop : tie.MeasureT-loop
 loop-holds : tie.Need-loop-holds Inv-loop μ-loop
 loop-holds c = (zero-le, filled-start 64 0 (wordsIn (c .before .args .list .now)) (wordsIn (c .before .args .list .now)) refl)
 
-mul-be16 : tie.Need-mul-be16 Inv-loop μ-loop
-mul-be16 c = search needs
-
-sub-be16 : tie.Need-sub-be16 Inv-loop μ-loop
-sub-be16 c = search needs
-
-part-be16-start : tie.Need-part-be16-start Inv-loop μ-loop
-part-be16-start c = search needs
-
-part-be16-end : tie.Need-part-be16-end Inv-loop μ-loop
-part-be16-end c = search needs
-
 be16-requires : tie.Need-be16-requires Inv-loop μ-loop
 be16-requires c κs = omega (arith, length-part-to-end (c .before .before .before .before .args .list .now) (2 * (c .before .before .loop .i)), c .before .loop-test .taken)
-
-mul-items : tie.Need-mul-items Inv-loop μ-loop
-mul-items c = search needs
-
-array-write-items : tie.Need-array-write-items Inv-loop μ-loop
-array-write-items c = search needs
-
-add-i : tie.Need-add-i Inv-loop μ-loop
-add-i c = search needs
-
-loop-less : tie.Need-loop-less Inv-loop μ-loop
-loop-less c = search needs
 
 loop-again : tie.Need-loop-again Inv-loop μ-loop
 loop-again c =
@@ -73,14 +49,14 @@ words-in-spec =
     Inv-loop
     μ-loop
     loop-holds
-    mul-be16
-    sub-be16
-    part-be16-start
-    part-be16-end
+    (λ c. search needs)  -- mul-be16
+    (λ c. search needs)  -- sub-be16
+    (λ c. search needs)  -- part-be16-start
+    (λ c. search needs)  -- part-be16-end
     be16-requires
-    mul-items
-    array-write-items
-    add-i
-    loop-less
+    (λ c. search needs)  -- mul-items
+    (λ c. search needs)  -- array-write-items
+    (λ c. search needs)  -- add-i
+    (λ c. search needs)  -- loop-less
     loop-again
     returns)

@@ -42,18 +42,6 @@ not-before c =
 loop-holds : tie.Need-loop-holds Inv-loop μ-loop
 loop-holds c = (zero-le, refl, marked-none (replicate 64 false), new-start (now (c .args .ids)))
 
-mul-id : tie.Need-mul-id Inv-loop μ-loop
-mul-id c = search needs
-
-element-copy-out-id : tie.Need-element-copy-out-id Inv-loop μ-loop
-element-copy-out-id c = search needs
-
-array-read-if1 : tie.Need-array-read-if1 Inv-loop μ-loop
-array-read-if1 c = search needs
-
-among-requires : tie.Need-among-requires Inv-loop μ-loop
-among-requires c κs = search needs
-
 returns : tie.Need-returns Inv-loop μ-loop
 returns c =
     let args = c .before .before .before .before .before .before .args in
@@ -62,15 +50,6 @@ returns c =
     let turn = c .before .before .before .before in
     let among = c .before .among in
     sym (new-not (now (args .ids)) (loop .i) (within turn) (args .n) (test .taken) (sym (among .ensures) ∙ c .if2 .taken))
-
-array-write-marks : tie.Need-array-write-marks Inv-loop μ-loop
-array-write-marks c = search needs
-
-add-i : tie.Need-add-i Inv-loop μ-loop
-add-i c = search needs
-
-loop-less : tie.Need-loop-less Inv-loop μ-loop
-loop-less c = search needs
 
 loop-again : tie.Need-loop-again Inv-loop μ-loop
 loop-again c =
@@ -100,13 +79,13 @@ all-new-spec =
     Inv-loop
     μ-loop
     loop-holds
-    mul-id
-    element-copy-out-id
-    array-read-if1
-    among-requires
+    (λ c. search needs)  -- mul-id
+    (λ c. search needs)  -- element-copy-out-id
+    (λ c. search needs)  -- array-read-if1
+    (λ c κs. search needs)  -- among-requires
     returns
-    array-write-marks
-    add-i
-    loop-less
+    (λ c. search needs)  -- array-write-marks
+    (λ c. search needs)  -- add-i
+    (λ c. search needs)  -- loop-less
     loop-again
     returns-2)

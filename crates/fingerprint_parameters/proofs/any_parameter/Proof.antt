@@ -37,12 +37,6 @@ head c =
     let at-id = c .before .before .before .before .before in
     head-within (now (args .rest)) _ (id-found at-id) _ (length-found c)
 
-read-requires : tie.Need-read-requires
-read-requires c κs = search needs
-
-enum-known-id : tie.Need-enum-known-id
-enum-known-id c = search needs
-
 enum-told : tie.Need-enum-told
 enum-told c = search needs
 
@@ -61,18 +55,6 @@ part-read-start : tie.Need-part-read-start
 part-read-start c =
     let at-id = c .before in
     omega (arith, (id-found at-id) .bounds .1)
-
-part-read-end : tie.Need-part-read-end
-part-read-end c = search needs
-
-read-requires-2 : tie.Need-read-requires-2
-read-requires-2 c κs = search needs
-
-enum-known-length : tie.Need-enum-known-length
-enum-known-length c = search needs
-
-enum-told-2 : tie.Need-enum-told-2
-enum-told-2 c = search needs
 
 returns-2 : tie.Need-returns-2
 returns-2 c =
@@ -117,16 +99,16 @@ pub any-parameter-spec : {M : Type 1} → statement M
 any-parameter-spec =
     tie.close
     (tie.spec
-    read-requires
-    enum-known-id
+    (λ c κs. search needs)  -- read-requires
+    (λ c. search needs)  -- enum-known-id
     enum-told
     returns
     sub-read
     part-read-start
-    part-read-end
-    read-requires-2
-    enum-known-length
-    enum-told-2
+    (λ c. search needs)  -- part-read-end
+    (λ c κs. search needs)  -- read-requires-2
+    (λ c. search needs)  -- enum-known-length
+    (λ c. search needs)  -- enum-told-2
     returns-2
     add-head
     sub-if1

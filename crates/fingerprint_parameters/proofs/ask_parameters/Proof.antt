@@ -24,17 +24,8 @@ kept c =
     let k = c .before .k in
     rw (k .given .1) at (reading .ensures)
 
-read-ids-requires : tie.Need-read-ids-requires
-read-ids-requires c κs = search needs
-
-enum-known-k : tie.Need-enum-known-k
-enum-known-k c = search needs
-
 enum-told : tie.Need-enum-told
 enum-told c = search needs
-
-without-ids-requires : tie.Need-without-ids-requires
-without-ids-requires c κs = search needs
 
 returns : tie.Need-returns
 returns c =
@@ -43,9 +34,6 @@ returns c =
     let reading = c .before .before .before .read-ids in
     rw (c .without-ids .ensures) (asked-cut (now (args .body)) _ _ pre (rw (c .before .enum-told .given .1) at (reading .ensures)))
 
-all-new-requires : tie.Need-all-new-requires
-all-new-requires c κs = search needs
-
 returns-2 : tie.Need-returns-2
 returns-2 c =
     let args = c .before .before .before .before .before .before .before .before .before .before .args in
@@ -53,9 +41,6 @@ returns-2 c =
     let if1 = c .before .before .before .if1 in
     let looked = c .before .all-new in
     asked-good (now (args .body)) _ _ _ (kept at-entry) (room at-entry) (if1 .taken) (sym (looked .ensures) ∙ c .if2 .taken)
-
-without-ids-requires-2 : tie.Need-without-ids-requires-2
-without-ids-requires-2 c κs = search needs
 
 returns-3 : tie.Need-returns-3
 returns-3 c =
@@ -71,9 +56,6 @@ ids-new-requires c κs =
     let args = c .before .before .before .before .before .before .before .args in
     all-there (now (args .body)) _ _ _ (kept (c .before))
 
-without-ids-requires-3 : tie.Need-without-ids-requires-3
-without-ids-requires-3 c κs = search needs
-
 returns-4 : tie.Need-returns-4
 returns-4 c =
     let args = c .before .before .before .before .before .before .before .before .before .before .args in
@@ -82,9 +64,6 @@ returns-4 c =
     let looked = c .before .before .ids-new in
     rw (c .without-ids3 .ensures)
     (asked-many (now (args .body)) _ _ _ (kept at-entry) (room at-entry) (if1 .left) (sym (looked .ensures) ∙ c .before .if3 .taken))
-
-without-ids-requires-4 : tie.Need-without-ids-requires-4
-without-ids-requires-4 c κs = search needs
 
 returns-5 : tie.Need-returns-5
 returns-5 c =
@@ -98,17 +77,17 @@ pub ask-parameters-spec : {M : Type 1} → statement M
 ask-parameters-spec =
     tie.close
     (tie.spec
-    read-ids-requires
-    enum-known-k
+    (λ c κs. search needs)  -- read-ids-requires
+    (λ c. search needs)  -- enum-known-k
     enum-told
-    without-ids-requires
+    (λ c κs. search needs)  -- without-ids-requires
     returns
-    all-new-requires
+    (λ c κs. search needs)  -- all-new-requires
     returns-2
-    without-ids-requires-2
+    (λ c κs. search needs)  -- without-ids-requires-2
     returns-3
     ids-new-requires
-    without-ids-requires-3
+    (λ c κs. search needs)  -- without-ids-requires-3
     returns-4
-    without-ids-requires-4
+    (λ c κs. search needs)  -- without-ids-requires-4
     returns-5)

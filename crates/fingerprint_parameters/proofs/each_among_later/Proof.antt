@@ -99,21 +99,6 @@ loop-holds c =
     let pre = c .before .pre in
     (zero-le, pre, refl)
 
-sub-one-parameter : tie.Need-sub-one-parameter Inv-loop μ-loop
-sub-one-parameter c = search needs
-
-part-one-parameter-start : tie.Need-part-one-parameter-start Inv-loop μ-loop
-part-one-parameter-start c = search needs
-
-part-one-parameter-end : tie.Need-part-one-parameter-end Inv-loop μ-loop
-part-one-parameter-end c = search needs
-
-one-parameter-requires : tie.Need-one-parameter-requires Inv-loop μ-loop
-one-parameter-requires c κs = search needs
-
-enum-known-id : tie.Need-enum-known-id Inv-loop μ-loop
-enum-known-id c = search needs
-
 enum-told : tie.Need-enum-told Inv-loop μ-loop
 enum-told c = search needs
 
@@ -133,9 +118,6 @@ sub-has-id c = within c
 
 part-has-id-start : tie.Need-part-has-id-start Inv-loop μ-loop
 part-has-id-start c = omega (arith, within c)
-
-part-has-id-end : tie.Need-part-has-id-end Inv-loop μ-loop
-part-has-id-end c = search needs
 
 has-id-requires : tie.Need-has-id-requires Inv-loop μ-loop
 has-id-requires c κs =
@@ -181,17 +163,17 @@ each-among-later-spec =
     Inv-loop
     μ-loop
     loop-holds
-    sub-one-parameter
-    part-one-parameter-start
-    part-one-parameter-end
-    one-parameter-requires
-    enum-known-id
+    (λ c. search needs)  -- sub-one-parameter
+    (λ c. search needs)  -- part-one-parameter-start
+    (λ c. search needs)  -- part-one-parameter-end
+    (λ c κs. search needs)  -- one-parameter-requires
+    (λ c. search needs)  -- enum-known-id
     enum-told
     returns
     add-at
     sub-has-id
     part-has-id-start
-    part-has-id-end
+    (λ c. search needs)  -- part-has-id-end
     has-id-requires
     returns-2
     loop-less

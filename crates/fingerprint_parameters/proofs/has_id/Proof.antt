@@ -65,21 +65,6 @@ loop-holds c =
     let pre = c .before .pre in
     (zero-le, pre, refl)
 
-sub-one-parameter : tie.Need-sub-one-parameter Inv-loop μ-loop
-sub-one-parameter c = search needs
-
-part-one-parameter-start : tie.Need-part-one-parameter-start Inv-loop μ-loop
-part-one-parameter-start c = search needs
-
-part-one-parameter-end : tie.Need-part-one-parameter-end Inv-loop μ-loop
-part-one-parameter-end c = search needs
-
-one-parameter-requires : tie.Need-one-parameter-requires Inv-loop μ-loop
-one-parameter-requires c κs = search needs
-
-enum-known-i : tie.Need-enum-known-i Inv-loop μ-loop
-enum-known-i c = search needs
-
 enum-told : tie.Need-enum-told Inv-loop μ-loop
 enum-told c = search needs
 
@@ -141,11 +126,11 @@ has-id-spec =
     Inv-loop
     μ-loop
     loop-holds
-    sub-one-parameter
-    part-one-parameter-start
-    part-one-parameter-end
-    one-parameter-requires
-    enum-known-i
+    (λ c. search needs)  -- sub-one-parameter
+    (λ c. search needs)  -- part-one-parameter-start
+    (λ c. search needs)  -- part-one-parameter-end
+    (λ c κs. search needs)  -- one-parameter-requires
+    (λ c. search needs)  -- enum-known-i
     enum-told
     returns
     returns-2

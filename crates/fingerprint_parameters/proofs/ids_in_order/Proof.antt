@@ -7,27 +7,6 @@ use borrow.Author.Needs.{needs}
 use Rattle.fingerprint_parameters.proofs.ids_in_order.Statement.{statement}
 use Rattle.fingerprint_parameters.proofs.ids_in_order.Tie as tie
 
-slice-aggregate-read-ids : tie.Need-slice-aggregate-read-ids
-slice-aggregate-read-ids c = search needs
-
-read-ids-requires : tie.Need-read-ids-requires
-read-ids-requires c κs = search needs
-
-enum-known-n : tie.Need-enum-known-n
-enum-known-n c = search needs
-
-enum-told : tie.Need-enum-told
-enum-told c = search needs
-
-returns : tie.Need-returns
-returns c = search needs
-
-returns-2 : tie.Need-returns-2
-returns-2 c = search needs
-
-in-order-requires : tie.Need-in-order-requires
-in-order-requires c κs = search needs
-
 returns-3 : tie.Need-returns-3
 returns-3 c =
     let args = c .before .before .before .before .before .before .before .before .before .before .args in
@@ -40,11 +19,11 @@ pub ids-in-order-spec : {M : Type 1} → statement M
 ids-in-order-spec =
     tie.close
     (tie.spec
-    slice-aggregate-read-ids
-    read-ids-requires
-    enum-known-n
-    enum-told
-    returns
-    returns-2
-    in-order-requires
+    (λ c. search needs)  -- slice-aggregate-read-ids
+    (λ c κs. search needs)  -- read-ids-requires
+    (λ c. search needs)  -- enum-known-n
+    (λ c. search needs)  -- enum-told
+    (λ c. search needs)  -- returns
+    (λ c. search needs)  -- returns-2
+    (λ c κs. search needs)  -- in-order-requires
     returns-3)

@@ -70,26 +70,8 @@ loop-holds c =
     let args = c .before .before .args in
     reading-start (now (args .body)) (now (args .ids))
 
-sub-one-parameter : tie.Need-sub-one-parameter Inv-loop μ-loop
-sub-one-parameter c = search needs
-
-part-one-parameter-start : tie.Need-part-one-parameter-start Inv-loop μ-loop
-part-one-parameter-start c = search needs
-
-part-one-parameter-end : tie.Need-part-one-parameter-end Inv-loop μ-loop
-part-one-parameter-end c = search needs
-
-one-parameter-requires : tie.Need-one-parameter-requires Inv-loop μ-loop
-one-parameter-requires c κs = search needs
-
-enum-known-id : tie.Need-enum-known-id Inv-loop μ-loop
-enum-known-id c = search needs
-
 enum-told : tie.Need-enum-told Inv-loop μ-loop
 enum-told c = search needs
-
-same-length : tie.Need-same-length Inv-loop μ-loop
-same-length c = search needs
 
 returns : tie.Need-returns Inv-loop μ-loop
 returns c =
@@ -99,12 +81,6 @@ returns c =
     let at-call = c .before .before in
     let cut = rw (c .enum-told .given .1) at (inner at-call) in
     reading-cut (now (args .body)) (now (args .ids)) (loop .ids) (loop .at) (loop .k) (loop .inv) (test .taken) cut
-
-mul-ids : tie.Need-mul-ids Inv-loop μ-loop
-mul-ids c = search needs
-
-slice-write-ids : tie.Need-slice-write-ids Inv-loop μ-loop
-slice-write-ids c = search needs
 
 add-at : tie.Need-add-at Inv-loop μ-loop
 add-at c =
@@ -128,9 +104,6 @@ loop-again c =
     let at-entry = c .before in
     rw (stored c) (next at-entry)
 
-same-length-2 : tie.Need-same-length-2 Inv-loop μ-loop
-same-length-2 c = search needs
-
 returns-2 : tie.Need-returns-2 Inv-loop μ-loop
 returns-2 c =
     let args = c .before .before .before .before .args in
@@ -144,19 +117,19 @@ read-ids-spec =
     Inv-loop
     μ-loop
     loop-holds
-    sub-one-parameter
-    part-one-parameter-start
-    part-one-parameter-end
-    one-parameter-requires
-    enum-known-id
+    (λ c. search needs)  -- sub-one-parameter
+    (λ c. search needs)  -- part-one-parameter-start
+    (λ c. search needs)  -- part-one-parameter-end
+    (λ c κs. search needs)  -- one-parameter-requires
+    (λ c. search needs)  -- enum-known-id
     enum-told
-    same-length
+    (λ c. search needs)  -- same-length
     returns
-    mul-ids
-    slice-write-ids
+    (λ c. search needs)  -- mul-ids
+    (λ c. search needs)  -- slice-write-ids
     add-at
     add-k
     loop-less
     loop-again
-    same-length-2
+    (λ c. search needs)  -- same-length-2
     returns-2)

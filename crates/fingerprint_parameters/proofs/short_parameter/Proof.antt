@@ -8,12 +8,14 @@ returns : tie.Need-returns
 unfolding shortOf
 returns c = rw (lt-ltb (c .before .args .left) (c .before .args .length) (c .if1 .taken))
 
-add-t7 : tie.Need-add-t7
-add-t7 c = search needs
-
 returns-2 : tie.Need-returns-2
 unfolding shortOf
 returns-2 c = rw (le-ltb (c .before .args .left) (c .before .args .length) (c .if1 .left))
 
 pub short-parameter-spec : {M : Type 1} → statement M
-short-parameter-spec = tie.close (tie.spec returns add-t7 returns-2)
+short-parameter-spec =
+    tie.close
+    (tie.spec
+    returns
+    (λ c. search needs)  -- add-t7
+    returns-2)

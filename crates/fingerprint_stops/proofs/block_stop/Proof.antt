@@ -45,9 +45,6 @@ extension-requires c κs =
     let pre = c .before .before .before .before .before .before .pre in
     (w .inside, pre .1, w .few, w .types-long, length-replicate 64 true, all-marked (take (loop .count) (loop .types)), w .ids-long)
 
-enum-known-t : tie.Need-enum-known-t Inv-loop μ-loop
-enum-known-t c = search needs
-
 mul-types : tie.Need-mul-types Inv-loop μ-loop
 mul-types c = omega (arith, room c)
 
@@ -68,9 +65,6 @@ loop-again c =
     let loop = c .before .before .before .before .before .before .before .before .loop in
     let test = c .before .before .before .before .before .before .before .loop-test in
     stopping-next (loop .inv) (test .taken) (s .0) (s .1)
-
-enum-known-number : tie.Need-enum-known-number Inv-loop μ-loop
-enum-known-number c = search needs
 
 place-in-requires : tie.Need-place-in-requires Inv-loop μ-loop
 place-in-requires c κs =
@@ -105,13 +99,13 @@ block-stop-spec =
     μ-loop
     loop-holds
     extension-requires
-    enum-known-t
+    (λ c. search needs)  -- enum-known-t
     mul-types
     array-write-types
     add-count
     loop-less
     loop-again
-    enum-known-number
+    (λ c. search needs)  -- enum-known-number
     place-in-requires
     add-t22
     returns

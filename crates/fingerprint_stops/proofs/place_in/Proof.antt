@@ -28,12 +28,6 @@ found c =
     let args = c .before .before .before .before .before .args in
     subst (λ (x : Header). HeaderAs x (now (args .hello)) (args .at)) (c .before .t .given .1) (c .before .before .before .read-header .ensures)
 
-read-header-requires : tie.Need-read-header-requires
-read-header-requires c κs = search needs
-
-enum-known-t : tie.Need-enum-known-t
-enum-known-t c = search needs
-
 enum-told : tie.Need-enum-told
 enum-told c = search needs
 
@@ -42,9 +36,6 @@ returns c =
     let args = c .before .before .before .before .args in
     let cut = subst (λ (x : Header). HeaderAs x (now (args .hello)) (args .at)) (c .enum-told .given .1) (c .before .before .read-header .ensures) in
     bounded (take (args .count) (now (args .known))) (now (args .hello)) (args .at) 0 (place-cut _ (drop (args .at) (now (args .hello))) cut)
-
-among-requires : tie.Need-among-requires
-among-requires c κs = search needs
 
 returns-2 : tie.Need-returns-2
 returns-2 c =
@@ -81,11 +72,11 @@ pub place-in-spec : {M : Type 1} → statement M
 place-in-spec =
     tie.close
     (tie.spec
-    read-header-requires
-    enum-known-t
+    (λ c κs. search needs)  -- read-header-requires
+    (λ c. search needs)  -- enum-known-t
     enum-told
     returns
-    among-requires
+    (λ c κs. search needs)  -- among-requires
     returns-2
     sub-in-body
     part-in-body-start

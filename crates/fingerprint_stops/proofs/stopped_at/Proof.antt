@@ -19,12 +19,6 @@ found c =
     let h = now (c .before .before .before .before .before .args .hello) in
     subst (λ (x : Head). FieldsAs x h) (c .before .session .given .1) (c .before .before .before .read-fields .ensures)
 
-read-fields-requires : tie.Need-read-fields-requires
-read-fields-requires c κs = search needs
-
-enum-known-session : tie.Need-enum-known-session
-enum-known-session c = search needs
-
 add-t9 : tie.Need-add-t9
 add-t9 c = omega (arith, session-small (found (c .before .before)))
 
@@ -40,12 +34,6 @@ block-stop-requires : tie.Need-block-stop-requires
 block-stop-requires c κs =
     let f = found (c .before .before) in
     (f .inside, f .short)
-
-enum-known-number : tie.Need-enum-known-number
-enum-known-number c = search needs
-
-head-place-requires : tie.Need-head-place-requires
-head-place-requires c κs = search needs
 
 returns-2 : tie.Need-returns-2
 returns-2 c =
@@ -64,13 +52,13 @@ pub stopped-at-spec : {M : Type 1} → statement M
 stopped-at-spec =
     tie.close
     (tie.spec
-    read-fields-requires
-    enum-known-session
+    (λ c κs. search needs)  -- read-fields-requires
+    (λ c. search needs)  -- enum-known-session
     add-t9
     add-t10
     returns
     block-stop-requires
-    enum-known-number
-    head-place-requires
+    (λ c. search needs)  -- enum-known-number
+    (λ c κs. search needs)  -- head-place-requires
     returns-2
     returns-3)

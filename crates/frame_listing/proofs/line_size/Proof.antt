@@ -5,23 +5,8 @@ use borrow.Author.Needs.{needs}
 use Rattle.frame_listing.proofs.line_size.Statement.{statement}
 use Rattle.frame_listing.proofs.line_size.Tie as tie
 
-read-frame-requires : tie.Need-read-frame-requires
-read-frame-requires c κs = search needs
-
 enum-told : tie.Need-enum-told
 enum-told c = search needs
-
-zeros-requires : tie.Need-zeros-requires
-zeros-requires c κs = search needs
-
-enum-told-2 : tie.Need-enum-told-2
-enum-told-2 c = search needs
-
-enum-known-c : tie.Need-enum-known-c
-enum-known-c c = search needs
-
-enum-told-3 : tie.Need-enum-told-3
-enum-told-3 c = search needs
 
 returns : tie.Need-returns
 returns c =
@@ -47,12 +32,12 @@ pub line-size-spec : {M : Type 1} → statement M
 line-size-spec =
     tie.close
     (tie.spec
-    read-frame-requires
+    (λ c κs. search needs)  -- read-frame-requires
     enum-told
-    zeros-requires
-    enum-told-2
-    enum-known-c
-    enum-told-3
+    (λ c κs. search needs)  -- zeros-requires
+    (λ c. search needs)  -- enum-told-2
+    (λ c. search needs)  -- enum-known-c
+    (λ c. search needs)  -- enum-told-3
     returns
     returns-2
     returns-3

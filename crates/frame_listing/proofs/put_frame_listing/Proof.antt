@@ -6,27 +6,6 @@ use borrow.Author.Needs.{needs}
 use Rattle.frame_listing.proofs.put_frame_listing.Statement.{statement}
 use Rattle.frame_listing.proofs.put_frame_listing.Tie as tie
 
-put-verdict-requires : tie.Need-put-verdict-requires
-put-verdict-requires c κs = search needs
-
-sub-put-lines : tie.Need-sub-put-lines
-sub-put-lines c = search needs
-
-part-put-lines-start : tie.Need-part-put-lines-start
-part-put-lines-start c = search needs
-
-part-put-lines-end : tie.Need-part-put-lines-end
-part-put-lines-end c = search needs
-
-put-lines-requires : tie.Need-put-lines-requires
-put-lines-requires c κs = search needs
-
-add-result : tie.Need-add-result
-add-result c = search needs
-
-same-length : tie.Need-same-length
-same-length c = search needs
-
 returns : tie.Need-returns
 returns c =
     let args = c .before .before .before .before .before .before .before .before .before .before .args in
@@ -39,11 +18,11 @@ pub put-frame-listing-spec : {M : Type 1} → statement M
 put-frame-listing-spec =
     tie.close
     (tie.spec
-    put-verdict-requires
-    sub-put-lines
-    part-put-lines-start
-    part-put-lines-end
-    put-lines-requires
-    add-result
-    same-length
+    (λ c κs. search needs)  -- put-verdict-requires
+    (λ c. search needs)  -- sub-put-lines
+    (λ c. search needs)  -- part-put-lines-start
+    (λ c. search needs)  -- part-put-lines-end
+    (λ c κs. search needs)  -- put-lines-requires
+    (λ c. search needs)  -- add-result
+    (λ c. search needs)  -- same-length
     returns)

@@ -25,42 +25,12 @@ loop-holds c =
     let args = c .before .before .args in
     (zero-le, zero-le, refl, going-none (args .frames .now) (stopFrom (args .number) (args .place)) (args .out .now))
 
-sub-if1 : tie.Need-sub-if1 Inv-loop μ-loop
-sub-if1 c = search needs
-
-sub-line-size : tie.Need-sub-line-size Inv-loop μ-loop
-sub-line-size c = search needs
-
-part-line-size-start : tie.Need-part-line-size-start Inv-loop μ-loop
-part-line-size-start c = search needs
-
-part-line-size-end : tie.Need-part-line-size-end Inv-loop μ-loop
-part-line-size-end c = search needs
-
 line-size-requires : tie.Need-line-size-requires Inv-loop μ-loop
 line-size-requires c κs = omega (arith, length-part-to-end (c .before .before .before .before .before .before .args .frames .now) (c .before .before .before .loop .at))
-
-sub-put-line : tie.Need-sub-put-line Inv-loop μ-loop
-sub-put-line c = search needs
-
-part-put-line-start : tie.Need-part-put-line-start Inv-loop μ-loop
-part-put-line-start c = search needs
-
-part-put-line-end : tie.Need-part-put-line-end Inv-loop μ-loop
-part-put-line-end c = search needs
 
 put-line-requires : tie.Need-put-line-requires Inv-loop μ-loop
 put-line-requires c κs =
     omega (arith, c .before .line-size .ensures .2, length-part-to-end (c .before .before .before .before .before .before .before .before .args .frames .now) (c .before .before .before .before .before .loop .at))
-
-add-used : tie.Need-add-used Inv-loop μ-loop
-add-used c = search needs
-
-add-at : tie.Need-add-at Inv-loop μ-loop
-add-at c = search needs
-
-loop-less : tie.Need-loop-less Inv-loop μ-loop
-loop-less c = search needs
 
 loop-again : tie.Need-loop-again Inv-loop μ-loop
 loop-again c =
@@ -77,24 +47,6 @@ loop-again c =
       going-more h (stopFrom (args .number) (args .place)) (l .at) (size .result) (l .used) (w .result) _ (args .out .now) (l .out) (w .last .0)
           (c .before .before .before .before .before .before .before .loop-test .taken) (size .ensures .0 ∙ ap lineSize part) (size .ensures .1) (l .inv .3) refl (w .ensures),
     )
-
-sub-put-end : tie.Need-sub-put-end Inv-loop μ-loop
-sub-put-end c = search needs
-
-part-put-end-start : tie.Need-part-put-end-start Inv-loop μ-loop
-part-put-end-start c = search needs
-
-part-put-end-end : tie.Need-part-put-end-end Inv-loop μ-loop
-part-put-end-end c = search needs
-
-put-end-requires : tie.Need-put-end-requires Inv-loop μ-loop
-put-end-requires c κs = search needs
-
-add-result : tie.Need-add-result Inv-loop μ-loop
-add-result c = search needs
-
-same-length : tie.Need-same-length Inv-loop μ-loop
-same-length c = search needs
 
 returns : tie.Need-returns Inv-loop μ-loop
 returns c =
@@ -115,23 +67,23 @@ put-lines-spec =
     Inv-loop
     μ-loop
     loop-holds
-    sub-if1
-    sub-line-size
-    part-line-size-start
-    part-line-size-end
+    (λ c. search needs)  -- sub-if1
+    (λ c. search needs)  -- sub-line-size
+    (λ c. search needs)  -- part-line-size-start
+    (λ c. search needs)  -- part-line-size-end
     line-size-requires
-    sub-put-line
-    part-put-line-start
-    part-put-line-end
+    (λ c. search needs)  -- sub-put-line
+    (λ c. search needs)  -- part-put-line-start
+    (λ c. search needs)  -- part-put-line-end
     put-line-requires
-    add-used
-    add-at
-    loop-less
+    (λ c. search needs)  -- add-used
+    (λ c. search needs)  -- add-at
+    (λ c. search needs)  -- loop-less
     loop-again
-    sub-put-end
-    part-put-end-start
-    part-put-end-end
-    put-end-requires
-    add-result
-    same-length
+    (λ c. search needs)  -- sub-put-end
+    (λ c. search needs)  -- part-put-end-start
+    (λ c. search needs)  -- part-put-end-end
+    (λ c κs. search needs)  -- put-end-requires
+    (λ c. search needs)  -- add-result
+    (λ c. search needs)  -- same-length
     returns)

@@ -15,20 +15,8 @@ abbrev μ-loop : tie.MeasureT-loop
 loop-holds : tie.Need-loop-holds Inv-loop μ-loop
 loop-holds c = tt
 
-write-page-requires : tie.Need-write-page-requires Inv-loop μ-loop
-write-page-requires c κs = search needs
-
-sub-left : tie.Need-sub-left Inv-loop μ-loop
-sub-left c = omega arith
-
-loop-less : tie.Need-loop-less Inv-loop μ-loop
-loop-less c = omega arith
-
 loop-again : tie.Need-loop-again Inv-loop μ-loop
 loop-again c = tt
-
-write-page-requires-2 : tie.Need-write-page-requires-2 Inv-loop μ-loop
-write-page-requires-2 c κs = search needs
 
 returns : tie.Need-returns Inv-loop μ-loop
 returns c = tt
@@ -40,9 +28,9 @@ write-run-spec =
     Inv-loop
     μ-loop
     loop-holds
-    write-page-requires
-    sub-left
-    loop-less
+    (λ c κs. search needs)  -- write-page-requires
+    (λ c. omega arith)  -- sub-left
+    (λ c. omega arith)  -- loop-less
     loop-again
-    write-page-requires-2
+    (λ c κs. search needs)  -- write-page-requires-2
     returns)

@@ -7,78 +7,6 @@ use borrow.Author.Needs.{needs}
 use Rattle.listing.proofs.put_end.Statement.{statement}
 use Rattle.listing.proofs.put_end.Tie as tie
 
-add-is-marked : tie.Need-add-is-marked
-add-is-marked c = search needs
-
-is-marked-requires : tie.Need-is-marked-requires
-is-marked-requires c κs = search needs
-
-sub-put-front : tie.Need-sub-put-front
-sub-put-front c = search needs
-
-part-put-front-start : tie.Need-part-put-front-start
-part-put-front-start c = search needs
-
-part-put-front-end : tie.Need-part-put-front-end
-part-put-front-end c = search needs
-
-put-front-requires : tie.Need-put-front-requires
-put-front-requires c κs = search needs
-
-sub-put-words : tie.Need-sub-put-words
-sub-put-words c = search needs
-
-part-put-words-start : tie.Need-part-put-words-start
-part-put-words-start c = search needs
-
-part-put-words-end : tie.Need-part-put-words-end
-part-put-words-end c = search needs
-
-last-what-requires : tie.Need-last-what-requires
-last-what-requires c κs = search needs
-
-sub-put-words-2 : tie.Need-sub-put-words-2
-sub-put-words-2 c = search needs
-
-part-put-words-start-2 : tie.Need-part-put-words-start-2
-part-put-words-start-2 c = search needs
-
-part-put-words-end-2 : tie.Need-part-put-words-end-2
-part-put-words-end-2 c = search needs
-
-put-words-requires : tie.Need-put-words-requires
-put-words-requires c κs = search needs
-
-add-m : tie.Need-add-m
-add-m c = search needs
-
-sub-put-reason : tie.Need-sub-put-reason
-sub-put-reason c = search needs
-
-part-put-reason-start : tie.Need-part-put-reason-start
-part-put-reason-start c = search needs
-
-part-put-reason-end : tie.Need-part-put-reason-end
-part-put-reason-end c = search needs
-
-sub-put-reason-2 : tie.Need-sub-put-reason-2
-sub-put-reason-2 c = search needs
-
-part-put-reason-start-2 : tie.Need-part-put-reason-start-2
-part-put-reason-start-2 c = search needs
-
-part-put-reason-end-2 : tie.Need-part-put-reason-end-2
-part-put-reason-end-2 c = search needs
-
-put-reason-requires : tie.Need-put-reason-requires
-put-reason-requires c κs = search needs
-
-add-result : tie.Need-add-result
-add-result c = search needs
-
-same-length : tie.Need-same-length
-same-length c = search needs
-
 returns : tie.Need-returns
 returns c =
     let args = c .before .before .before .before .before .before .before .before .before .before .before .before .before .before .before .before .before .before .before .before .args in
@@ -92,9 +20,6 @@ returns c =
     line-marked 4 (args .hello .now) (args .number) (args .place) (lastRow (args .hello .now) (args .at)) _ (last-bytes (args .hello .now) (args .at))
     (mark .result) (mark .ensures ∙ last-mark stop (args .hello .now) (args .at)) (words .parts) (reason .words) test
     (written-more _ _ _ _ _ _ _ _ front refl (reason .is))
-
-same-length-2 : tie.Need-same-length-2
-same-length-2 c = search needs
 
 returns-2 : tie.Need-returns-2
 returns-2 c =
@@ -112,30 +37,30 @@ pub put-end-spec : {M : Type 1} → statement M
 put-end-spec =
     tie.close
     (tie.spec
-    add-is-marked
-    is-marked-requires
-    sub-put-front
-    part-put-front-start
-    part-put-front-end
-    put-front-requires
-    sub-put-words
-    part-put-words-start
-    part-put-words-end
-    last-what-requires
-    sub-put-words-2
-    part-put-words-start-2
-    part-put-words-end-2
-    put-words-requires
-    add-m
-    sub-put-reason
-    part-put-reason-start
-    part-put-reason-end
-    sub-put-reason-2
-    part-put-reason-start-2
-    part-put-reason-end-2
-    put-reason-requires
-    add-result
-    same-length
+    (λ c. search needs)  -- add-is-marked
+    (λ c κs. search needs)  -- is-marked-requires
+    (λ c. search needs)  -- sub-put-front
+    (λ c. search needs)  -- part-put-front-start
+    (λ c. search needs)  -- part-put-front-end
+    (λ c κs. search needs)  -- put-front-requires
+    (λ c. search needs)  -- sub-put-words
+    (λ c. search needs)  -- part-put-words-start
+    (λ c. search needs)  -- part-put-words-end
+    (λ c κs. search needs)  -- last-what-requires
+    (λ c. search needs)  -- sub-put-words-2
+    (λ c. search needs)  -- part-put-words-start-2
+    (λ c. search needs)  -- part-put-words-end-2
+    (λ c κs. search needs)  -- put-words-requires
+    (λ c. search needs)  -- add-m
+    (λ c. search needs)  -- sub-put-reason
+    (λ c. search needs)  -- part-put-reason-start
+    (λ c. search needs)  -- part-put-reason-end
+    (λ c. search needs)  -- sub-put-reason-2
+    (λ c. search needs)  -- part-put-reason-start-2
+    (λ c. search needs)  -- part-put-reason-end-2
+    (λ c κs. search needs)  -- put-reason-requires
+    (λ c. search needs)  -- add-result
+    (λ c. search needs)  -- same-length
     returns
-    same-length-2
+    (λ c. search needs)  -- same-length-2
     returns-2)

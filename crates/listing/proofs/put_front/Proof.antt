@@ -5,27 +5,6 @@ use borrow.Author.Needs.{needs}
 use Rattle.listing.proofs.put_front.Statement.{statement}
 use Rattle.listing.proofs.put_front.Tie as tie
 
-put-place-requires : tie.Need-put-place-requires
-put-place-requires c κs = search needs
-
-sub-put-run : tie.Need-sub-put-run
-sub-put-run c = search needs
-
-part-put-run-start : tie.Need-part-put-run-start
-part-put-run-start c = search needs
-
-part-put-run-end : tie.Need-part-put-run-end
-part-put-run-end c = search needs
-
-put-run-requires : tie.Need-put-run-requires
-put-run-requires c κs = search needs
-
-add-result : tie.Need-add-result
-add-result c = search needs
-
-same-length : tie.Need-same-length
-same-length c = search needs
-
 returns : tie.Need-returns
 returns c =
     let first = c .before .before .before .before .before .before .put-place .ensures in
@@ -36,11 +15,11 @@ pub put-front-spec : {M : Type 1} → statement M
 put-front-spec =
     tie.close
     (tie.spec
-    put-place-requires
-    sub-put-run
-    part-put-run-start
-    part-put-run-end
-    put-run-requires
-    add-result
-    same-length
+    (λ c κs. search needs)  -- put-place-requires
+    (λ c. search needs)  -- sub-put-run
+    (λ c. search needs)  -- part-put-run-start
+    (λ c. search needs)  -- part-put-run-end
+    (λ c κs. search needs)  -- put-run-requires
+    (λ c. search needs)  -- add-result
+    (λ c. search needs)  -- same-length
     returns)

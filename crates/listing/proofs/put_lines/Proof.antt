@@ -18,9 +18,6 @@ abbrev μ-loop : tie.MeasureT-loop
 μ-loop out₀ hello number place c₀ used₀ out c used =
     length hello - c .at
 
-start-requires : tie.Need-start-requires Inv-loop μ-loop
-start-requires c κs = search needs
-
 loop-holds : tie.Need-loop-holds Inv-loop μ-loop
 loop-holds c =
     let args = c .before .before .before .args in
@@ -31,28 +28,13 @@ loop-holds c =
 line-at-requires : tie.Need-line-at-requires Inv-loop μ-loop
 line-at-requires c κs = (omega (arith, (c .before .before .before .before .before .before .pre)), (c .before .before .loop) .inv .0, (c .if1) .taken)
 
-sub-put-line : tie.Need-sub-put-line Inv-loop μ-loop
-sub-put-line c = search needs
-
-part-put-line-start : tie.Need-part-put-line-start Inv-loop μ-loop
-part-put-line-start c = search needs
-
-part-put-line-end : tie.Need-part-put-line-end Inv-loop μ-loop
-part-put-line-end c = search needs
-
 put-line-requires : tie.Need-put-line-requires Inv-loop μ-loop
 put-line-requires c κs = ((c .before .before .before .before .before .before .before .before .pre), (c .before .before .before .before .loop) .inv .0, (c .before .line-at) .ensures .1)
-
-add-used : tie.Need-add-used Inv-loop μ-loop
-add-used c = search needs
 
 next-requires : tie.Need-next-requires Inv-loop μ-loop
 next-requires c κs =
     let line = c .before .before .before .before .line-at .ensures in
     (omega (arith, (c .before .before .before .before .before .before .before .before .before .before .before .pre)), (c .before .before .before .before .before .before .before .loop) .inv .0, (c .before .before .before .before .before .if1) .taken, line .0, line .1)
-
-loop-less : tie.Need-loop-less Inv-loop μ-loop
-loop-less c = search needs
 
 loop-again : tie.Need-loop-again Inv-loop μ-loop
 loop-again c =
@@ -69,9 +51,6 @@ loop-again c =
           (w .ensures),
     )
 
-same-length : tie.Need-same-length Inv-loop μ-loop
-same-length c = search needs
-
 returns : tie.Need-returns Inv-loop μ-loop
 returns c =
     let args = c .before .before .before .before .before .before .args in
@@ -84,16 +63,16 @@ put-lines-spec =
     (tie.spec
     Inv-loop
     μ-loop
-    start-requires
+    (λ c κs. search needs)  -- start-requires
     loop-holds
     line-at-requires
-    sub-put-line
-    part-put-line-start
-    part-put-line-end
+    (λ c. search needs)  -- sub-put-line
+    (λ c. search needs)  -- part-put-line-start
+    (λ c. search needs)  -- part-put-line-end
     put-line-requires
-    add-used
+    (λ c. search needs)  -- add-used
     next-requires
-    loop-less
+    (λ c. search needs)  -- loop-less
     loop-again
-    same-length
+    (λ c. search needs)  -- same-length
     returns)

@@ -11,54 +11,6 @@ use borrow.Author.Needs.{needs}
 use Rattle.listing.proofs.put_listing.Statement.{statement}
 use Rattle.listing.proofs.put_listing.Tie as tie
 
-up-to-most-requires : tie.Need-up-to-most-requires
-up-to-most-requires c κs = search needs
-
-put-verdict-requires : tie.Need-put-verdict-requires
-put-verdict-requires c κs = search needs
-
-sub-put-lines : tie.Need-sub-put-lines
-sub-put-lines c = search needs
-
-part-put-lines-start : tie.Need-part-put-lines-start
-part-put-lines-start c = search needs
-
-part-put-lines-end : tie.Need-part-put-lines-end
-part-put-lines-end c = search needs
-
-sub-put-lines-2 : tie.Need-sub-put-lines-2
-sub-put-lines-2 c = search needs
-
-part-put-lines-start-2 : tie.Need-part-put-lines-start-2
-part-put-lines-start-2 c = search needs
-
-part-put-lines-end-2 : tie.Need-part-put-lines-end-2
-part-put-lines-end-2 c = search needs
-
-put-lines-requires : tie.Need-put-lines-requires
-put-lines-requires c κs = search needs
-
-add-m : tie.Need-add-m
-add-m c = search needs
-
-sub-put-end : tie.Need-sub-put-end
-sub-put-end c = search needs
-
-part-put-end-start : tie.Need-part-put-end-start
-part-put-end-start c = search needs
-
-part-put-end-end : tie.Need-part-put-end-end
-part-put-end-end c = search needs
-
-put-end-requires : tie.Need-put-end-requires
-put-end-requires c κs = search needs
-
-add-result : tie.Need-add-result
-add-result c = search needs
-
-same-length : tie.Need-same-length
-same-length c = search needs
-
 returns : tie.Need-returns
 returns c =
     let args = c .before .before .before .before .before .before .before .before .before .before .before .before .before .before .before .before .args in
@@ -81,20 +33,20 @@ pub put-listing-spec : {M : Type 1} → statement M
 put-listing-spec =
     tie.close
     (tie.spec
-    up-to-most-requires
-    put-verdict-requires
-    sub-put-lines
-    part-put-lines-start
-    part-put-lines-end
-    sub-put-lines-2
-    part-put-lines-start-2
-    part-put-lines-end-2
-    put-lines-requires
-    add-m
-    sub-put-end
-    part-put-end-start
-    part-put-end-end
-    put-end-requires
-    add-result
-    same-length
+    (λ c κs. search needs)  -- up-to-most-requires
+    (λ c κs. search needs)  -- put-verdict-requires
+    (λ c. search needs)  -- sub-put-lines
+    (λ c. search needs)  -- part-put-lines-start
+    (λ c. search needs)  -- part-put-lines-end
+    (λ c. search needs)  -- sub-put-lines-2
+    (λ c. search needs)  -- part-put-lines-start-2
+    (λ c. search needs)  -- part-put-lines-end-2
+    (λ c κs. search needs)  -- put-lines-requires
+    (λ c. search needs)  -- add-m
+    (λ c. search needs)  -- sub-put-end
+    (λ c. search needs)  -- part-put-end-start
+    (λ c. search needs)  -- part-put-end-end
+    (λ c κs. search needs)  -- put-end-requires
+    (λ c. search needs)  -- add-result
+    (λ c. search needs)  -- same-length
     returns)

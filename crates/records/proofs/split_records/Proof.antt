@@ -14,12 +14,6 @@ found :
     → let args = c .before .before .before .before .before .args in Finds (now (args .blob)) (args .place) (next.Record (c .before .after .given .0 .0))
 found c = rw (c .before .after .given .1) at (c .before .before .before .next-record .ensures)
 
-next-record-requires : tie.Need-next-record-requires
-next-record-requires c κs = search needs
-
-enum-known-after : tie.Need-enum-known-after
-enum-known-after c = search needs
-
 add-start : tie.Need-add-start
 add-start c = omega (arith, found c .bounds)
 
@@ -31,30 +25,6 @@ part-result-start c = omega (arith, found c .bounds)
 
 part-result-end : tie.Need-part-result-end
 part-result-end c = omega (arith, found c .bounds)
-
-enum-told : tie.Need-enum-told
-enum-told c = search needs
-
-sub-result-2 : tie.Need-sub-result-2
-sub-result-2 c = search needs
-
-part-result-start-2 : tie.Need-part-result-start-2
-part-result-start-2 c = search needs
-
-part-result-end-2 : tie.Need-part-result-end-2
-part-result-end-2 c = search needs
-
-enum-told-2 : tie.Need-enum-told-2
-enum-told-2 c = search needs
-
-sub-result-3 : tie.Need-sub-result-3
-sub-result-3 c = search needs
-
-part-result-start-3 : tie.Need-part-result-start-3
-part-result-start-3 c = search needs
-
-part-result-end-3 : tie.Need-part-result-end-3
-part-result-end-3 c = search needs
 
 returns : tie.Need-returns
 returns c = part-of _ _ _ (found (c .before))
@@ -69,20 +39,20 @@ pub split-records-spec : {M : Type 1} → statement M
 split-records-spec =
     tie.close
     (tie.spec
-    next-record-requires
-    enum-known-after
+    (λ c κs. search needs)
+    (λ c. search needs)
     add-start
     sub-result
     part-result-start
     part-result-end
-    enum-told
-    sub-result-2
-    part-result-start-2
-    part-result-end-2
-    enum-told-2
-    sub-result-3
-    part-result-start-3
-    part-result-end-3
+    (λ c. search needs)
+    (λ c. search needs)
+    (λ c. search needs)
+    (λ c. search needs)
+    (λ c. search needs)
+    (λ c. search needs)
+    (λ c. search needs)
+    (λ c. search needs)
     returns
     returns-2
     returns-3)

@@ -7,27 +7,6 @@ use Rattle.registries.proofs.RegistryLaws.{name-there, name-missing}
 use Rattle.registries.proofs.put_in.Statement.{statement}
 use Rattle.registries.proofs.put_in.Tie as tie
 
-place-of-requires : tie.Need-place-of-requires
-place-of-requires c κs = search needs
-
-word-at-requires : tie.Need-word-at-requires
-word-at-requires c κs = search needs
-
-put-text-requires : tie.Need-put-text-requires
-put-text-requires c κs = search needs
-
-slice-aggregate-word-at : tie.Need-slice-aggregate-word-at
-slice-aggregate-word-at c = search needs
-
-word-at-requires-2 : tie.Need-word-at-requires-2
-word-at-requires-2 c κs = search needs
-
-put-text-requires-2 : tie.Need-put-text-requires-2
-put-text-requires-2 c κs = search needs
-
-same-length : tie.Need-same-length
-same-length c = search needs
-
 returns : tie.Need-returns
 unfolding word
 returns c =
@@ -36,9 +15,6 @@ returns c =
     let there = name-there (now (args .numbers)) (now (args .names)) (args .spare) (args .v) (place-of .result) (place-of .ensures .0)
     (c .before .before .before .before .before .if1 .taken) in
     rw (there ∙ sym (c .before .before .before .word-at .ensures)) (c .before .before .put-text .ensures)
-
-same-length-2 : tie.Need-same-length-2
-same-length-2 c = search needs
 
 returns-2 : tie.Need-returns-2
 unfolding word spareWords text
@@ -53,13 +29,13 @@ pub put-in-spec : {M : Type 1} → statement M
 put-in-spec =
     tie.close
     (tie.spec
-    place-of-requires
-    word-at-requires
-    put-text-requires
-    slice-aggregate-word-at
-    word-at-requires-2
-    put-text-requires-2
-    same-length
+    (λ c κs. search needs)  -- place-of-requires
+    (λ c κs. search needs)  -- word-at-requires
+    (λ c κs. search needs)  -- put-text-requires
+    (λ c. search needs)  -- slice-aggregate-word-at
+    (λ c κs. search needs)  -- word-at-requires-2
+    (λ c κs. search needs)  -- put-text-requires-2
+    (λ c. search needs)  -- same-length
     returns
-    same-length-2
+    (λ c. search needs)  -- same-length-2
     returns-2)

@@ -13,53 +13,11 @@ use borrow.Author.Needs.{needs}
 use Rattle.reports.proofs.put_first_lines.Statement.{statement}
 use Rattle.reports.proofs.put_first_lines.Tie as tie
 
-slice-aggregate-put-number : tie.Need-slice-aggregate-put-number
-slice-aggregate-put-number c = search needs
-
-put-number-requires : tie.Need-put-number-requires
-put-number-requires c κs = search needs
-
-sub-put-words : tie.Need-sub-put-words
-sub-put-words c = search needs
-
-part-put-words-start : tie.Need-part-put-words-start
-part-put-words-start c = search needs
-
-part-put-words-end : tie.Need-part-put-words-end
-part-put-words-end c = search needs
-
-slice-aggregate-put-words : tie.Need-slice-aggregate-put-words
-slice-aggregate-put-words c = search needs
-
-slice-aggregate-put-words-2 : tie.Need-slice-aggregate-put-words-2
-slice-aggregate-put-words-2 c = search needs
-
 put-words-requires : tie.Need-put-words-requires
 put-words-requires c κs = omega (arith, (c .before .before .before .before .before .before .before .before .before .before .pre .suites .long), (c .before .before .before .before .before .before .before .before .before .before .pre .suites .few))
 
-add-m : tie.Need-add-m
-add-m c = search needs
-
-sub-put-types : tie.Need-sub-put-types
-sub-put-types c = search needs
-
-part-put-types-start : tie.Need-part-put-types-start
-part-put-types-start c = search needs
-
-part-put-types-end : tie.Need-part-put-types-end
-part-put-types-end c = search needs
-
-slice-aggregate-put-types : tie.Need-slice-aggregate-put-types
-slice-aggregate-put-types c = search needs
-
 put-types-requires : tie.Need-put-types-requires
 put-types-requires c κs = (c .before .before .before .before .before .before .before .before .before .before .before .before .before .before .before .before .pre .types)
-
-add-result : tie.Need-add-result
-add-result c = search needs
-
-same-length : tie.Need-same-length
-same-length c = search needs
 
 returns : tie.Need-returns
 unfolding firstLines
@@ -79,20 +37,20 @@ pub put-first-lines-spec : {M : Type 1} → statement M
 put-first-lines-spec =
     tie.close
     (tie.spec
-    slice-aggregate-put-number
-    put-number-requires
-    sub-put-words
-    part-put-words-start
-    part-put-words-end
-    slice-aggregate-put-words
-    slice-aggregate-put-words-2
+    (λ c. search needs)  -- slice-aggregate-put-number
+    (λ c κs. search needs)  -- put-number-requires
+    (λ c. search needs)  -- sub-put-words
+    (λ c. search needs)  -- part-put-words-start
+    (λ c. search needs)  -- part-put-words-end
+    (λ c. search needs)  -- slice-aggregate-put-words
+    (λ c. search needs)  -- slice-aggregate-put-words-2
     put-words-requires
-    add-m
-    sub-put-types
-    part-put-types-start
-    part-put-types-end
-    slice-aggregate-put-types
+    (λ c. search needs)  -- add-m
+    (λ c. search needs)  -- sub-put-types
+    (λ c. search needs)  -- part-put-types-start
+    (λ c. search needs)  -- part-put-types-end
+    (λ c. search needs)  -- slice-aggregate-put-types
     put-types-requires
-    add-result
-    same-length
+    (λ c. search needs)  -- add-result
+    (λ c. search needs)  -- same-length
     returns)

@@ -16,44 +16,11 @@ use Rattle.reports.proofs.put_last_lines.Tie as tie
 put-protocols-requires : tie.Need-put-protocols-requires
 put-protocols-requires c κs = ((c .before .before .before .before .pre .counts .protocols), (c .before .before .before .before .pre .protocols-inside))
 
-sub-put-sni : tie.Need-sub-put-sni
-sub-put-sni c = search needs
-
-part-put-sni-start : tie.Need-part-put-sni-start
-part-put-sni-start c = search needs
-
-part-put-sni-end : tie.Need-part-put-sni-end
-part-put-sni-end c = search needs
-
 put-sni-requires : tie.Need-put-sni-requires
 put-sni-requires c κs = (c .before .before .before .before .before .before .before .before .pre .sni-inside)
 
-add-m : tie.Need-add-m
-add-m c = search needs
-
-sub-put-ids : tie.Need-sub-put-ids
-sub-put-ids c = search needs
-
-part-put-ids-start : tie.Need-part-put-ids-start
-part-put-ids-start c = search needs
-
-part-put-ids-end : tie.Need-part-put-ids-end
-part-put-ids-end c = search needs
-
-slice-aggregate-put-ids : tie.Need-slice-aggregate-put-ids
-slice-aggregate-put-ids c = search needs
-
-slice-aggregate-put-ids-2 : tie.Need-slice-aggregate-put-ids-2
-slice-aggregate-put-ids-2 c = search needs
-
 put-ids-requires : tie.Need-put-ids-requires
 put-ids-requires c κs = omega (arith, (c .before .before .before .before .before .before .before .before .before .before .before .before .before .before .before .pre .counts .ids .long), (c .before .before .before .before .before .before .before .before .before .before .before .before .before .before .before .pre .counts .ids .few))
-
-add-result : tie.Need-add-result
-add-result c = search needs
-
-same-length : tie.Need-same-length
-same-length c = search needs
 
 returns : tie.Need-returns
 unfolding lastLines
@@ -76,17 +43,17 @@ put-last-lines-spec =
     tie.close
     (tie.spec
     put-protocols-requires
-    sub-put-sni
-    part-put-sni-start
-    part-put-sni-end
+    (λ c. search needs)  -- sub-put-sni
+    (λ c. search needs)  -- part-put-sni-start
+    (λ c. search needs)  -- part-put-sni-end
     put-sni-requires
-    add-m
-    sub-put-ids
-    part-put-ids-start
-    part-put-ids-end
-    slice-aggregate-put-ids
-    slice-aggregate-put-ids-2
+    (λ c. search needs)  -- add-m
+    (λ c. search needs)  -- sub-put-ids
+    (λ c. search needs)  -- part-put-ids-start
+    (λ c. search needs)  -- part-put-ids-end
+    (λ c. search needs)  -- slice-aggregate-put-ids
+    (λ c. search needs)  -- slice-aggregate-put-ids-2
     put-ids-requires
-    add-result
-    same-length
+    (λ c. search needs)  -- add-result
+    (λ c. search needs)  -- same-length
     returns)

@@ -13,74 +13,17 @@ use borrow.Author.Needs.{needs}
 use Rattle.reports.proofs.put_list_lines.Statement.{statement}
 use Rattle.reports.proofs.put_list_lines.Tie as tie
 
-slice-aggregate-put-groups : tie.Need-slice-aggregate-put-groups
-slice-aggregate-put-groups c = search needs
-
 put-groups-requires : tie.Need-put-groups-requires
 put-groups-requires c κs = (c .before .before .before .before .pre .groups)
-
-sub-put-groups : tie.Need-sub-put-groups
-sub-put-groups c = search needs
-
-part-put-groups-start : tie.Need-part-put-groups-start
-part-put-groups-start c = search needs
-
-part-put-groups-end : tie.Need-part-put-groups-end
-part-put-groups-end c = search needs
-
-slice-aggregate-put-groups-2 : tie.Need-slice-aggregate-put-groups-2
-slice-aggregate-put-groups-2 c = search needs
 
 put-groups-requires-2 : tie.Need-put-groups-requires-2
 put-groups-requires-2 c κs = (c .before .before .before .before .before .before .before .before .before .before .pre .shares)
 
-add-m : tie.Need-add-m
-add-m c = search needs
-
-sub-put-words : tie.Need-sub-put-words
-sub-put-words c = search needs
-
-part-put-words-start : tie.Need-part-put-words-start
-part-put-words-start c = search needs
-
-part-put-words-end : tie.Need-part-put-words-end
-part-put-words-end c = search needs
-
-slice-aggregate-put-words : tie.Need-slice-aggregate-put-words
-slice-aggregate-put-words c = search needs
-
-slice-aggregate-put-words-2 : tie.Need-slice-aggregate-put-words-2
-slice-aggregate-put-words-2 c = search needs
-
 put-words-requires : tie.Need-put-words-requires
 put-words-requires c κs = omega (arith, (c .before .before .before .before .before .before .before .before .before .before .before .before .before .before .before .before .before .pre .algorithms .long), (c .before .before .before .before .before .before .before .before .before .before .before .before .before .before .before .before .before .pre .algorithms .few))
 
-add-k : tie.Need-add-k
-add-k c = search needs
-
-sub-put-words-2 : tie.Need-sub-put-words-2
-sub-put-words-2 c = search needs
-
-part-put-words-start-2 : tie.Need-part-put-words-start-2
-part-put-words-start-2 c = search needs
-
-part-put-words-end-2 : tie.Need-part-put-words-end-2
-part-put-words-end-2 c = search needs
-
-slice-aggregate-put-words-3 : tie.Need-slice-aggregate-put-words-3
-slice-aggregate-put-words-3 c = search needs
-
-slice-aggregate-put-words-4 : tie.Need-slice-aggregate-put-words-4
-slice-aggregate-put-words-4 c = search needs
-
 put-words-requires-2 : tie.Need-put-words-requires-2
 put-words-requires-2 c κs = omega (arith, (c .before .before .before .before .before .before .before .before .before .before .before .before .before .before .before .before .before .before .before .before .before .before .before .before .pre .versions .long), (c .before .before .before .before .before .before .before .before .before .before .before .before .before .before .before .before .before .before .before .before .before .before .before .before .pre .versions .few))
-
-add-result : tie.Need-add-result
-add-result c = search needs
-
-same-length : tie.Need-same-length
-same-length c = search needs
 
 returns : tie.Need-returns
 unfolding listLines
@@ -104,27 +47,27 @@ pub put-list-lines-spec : {M : Type 1} → statement M
 put-list-lines-spec =
     tie.close
     (tie.spec
-    slice-aggregate-put-groups
+    (λ c. search needs)  -- slice-aggregate-put-groups
     put-groups-requires
-    sub-put-groups
-    part-put-groups-start
-    part-put-groups-end
-    slice-aggregate-put-groups-2
+    (λ c. search needs)  -- sub-put-groups
+    (λ c. search needs)  -- part-put-groups-start
+    (λ c. search needs)  -- part-put-groups-end
+    (λ c. search needs)  -- slice-aggregate-put-groups-2
     put-groups-requires-2
-    add-m
-    sub-put-words
-    part-put-words-start
-    part-put-words-end
-    slice-aggregate-put-words
-    slice-aggregate-put-words-2
+    (λ c. search needs)  -- add-m
+    (λ c. search needs)  -- sub-put-words
+    (λ c. search needs)  -- part-put-words-start
+    (λ c. search needs)  -- part-put-words-end
+    (λ c. search needs)  -- slice-aggregate-put-words
+    (λ c. search needs)  -- slice-aggregate-put-words-2
     put-words-requires
-    add-k
-    sub-put-words-2
-    part-put-words-start-2
-    part-put-words-end-2
-    slice-aggregate-put-words-3
-    slice-aggregate-put-words-4
+    (λ c. search needs)  -- add-k
+    (λ c. search needs)  -- sub-put-words-2
+    (λ c. search needs)  -- part-put-words-start-2
+    (λ c. search needs)  -- part-put-words-end-2
+    (λ c. search needs)  -- slice-aggregate-put-words-3
+    (λ c. search needs)  -- slice-aggregate-put-words-4
     put-words-requires-2
-    add-result
-    same-length
+    (λ c. search needs)  -- add-result
+    (λ c. search needs)  -- same-length
     returns)

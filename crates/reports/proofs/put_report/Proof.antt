@@ -12,38 +12,11 @@ use Rattle.reports.proofs.put_report.Tie as tie
 put-first-lines-requires : tie.Need-put-first-lines-requires
 put-first-lines-requires c κs = (c .before .before .before .pre .counts)
 
-sub-put-list-lines : tie.Need-sub-put-list-lines
-sub-put-list-lines c = search needs
-
-part-put-list-lines-start : tie.Need-part-put-list-lines-start
-part-put-list-lines-start c = search needs
-
-part-put-list-lines-end : tie.Need-part-put-list-lines-end
-part-put-list-lines-end c = search needs
-
 put-list-lines-requires : tie.Need-put-list-lines-requires
 put-list-lines-requires c κs = (c .before .before .before .before .before .before .before .pre .counts)
 
-add-m : tie.Need-add-m
-add-m c = search needs
-
-sub-put-last-lines : tie.Need-sub-put-last-lines
-sub-put-last-lines c = search needs
-
-part-put-last-lines-start : tie.Need-part-put-last-lines-start
-part-put-last-lines-start c = search needs
-
-part-put-last-lines-end : tie.Need-part-put-last-lines-end
-part-put-last-lines-end c = search needs
-
 put-last-lines-requires : tie.Need-put-last-lines-requires
 put-last-lines-requires c κs = (c .before .before .before .before .before .before .before .before .before .before .before .pre)
-
-add-result : tie.Need-add-result
-add-result c = search needs
-
-same-length : tie.Need-same-length
-same-length c = search needs
 
 returns : tie.Need-returns
 unfolding reportParts
@@ -65,15 +38,15 @@ put-report-spec =
     tie.close
     (tie.spec
     put-first-lines-requires
-    sub-put-list-lines
-    part-put-list-lines-start
-    part-put-list-lines-end
+    (λ c. search needs)  -- sub-put-list-lines
+    (λ c. search needs)  -- part-put-list-lines-start
+    (λ c. search needs)  -- part-put-list-lines-end
     put-list-lines-requires
-    add-m
-    sub-put-last-lines
-    part-put-last-lines-start
-    part-put-last-lines-end
+    (λ c. search needs)  -- add-m
+    (λ c. search needs)  -- sub-put-last-lines
+    (λ c. search needs)  -- part-put-last-lines-start
+    (λ c. search needs)  -- part-put-last-lines-end
     put-last-lines-requires
-    add-result
-    same-length
+    (λ c. search needs)  -- add-result
+    (λ c. search needs)  -- same-length
     returns)

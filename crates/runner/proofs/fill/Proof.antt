@@ -6,18 +6,6 @@ use borrow.Author.Needs.{needs}
 use Rattle.runner.proofs.fill.Statement.{statement}
 use Rattle.runner.proofs.fill.Tie as tie
 
-returns : tie.Need-returns
-returns c = search needs
-
-read-some-requires : tie.Need-read-some-requires
-read-some-requires c κs = search needs
-
-fill-requires : tie.Need-fill-requires
-fill-requires c κs = search needs
-
-same-length : tie.Need-same-length
-same-length c = search needs
-
 returns-2 : tie.Need-returns-2
 returns-2 c =
     let args = c .before .before .before .before .before .before .before .before .args in
@@ -25,4 +13,11 @@ returns-2 c =
     filled-held (length (now (args .chunk))) (read-some .result) (args .s) (c .fill .result) (c .fill .ensures) (read-some .ensures)
 
 pub fill-spec : {M : Type 1} → statement M
-fill-spec = tie.close (tie.spec returns read-some-requires fill-requires same-length returns-2)
+fill-spec =
+    tie.close
+    (tie.spec
+    (λ c. search needs)  -- returns
+    (λ c κs. search needs)  -- read-some-requires
+    (λ c κs. search needs)  -- fill-requires
+    (λ c. search needs)  -- same-length
+    returns-2)

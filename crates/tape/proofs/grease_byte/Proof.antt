@@ -5,18 +5,15 @@ use borrow.Author.Needs.{needs}
 use Rattle.tape.proofs.grease_byte.Statement.{statement}
 use Rattle.tape.proofs.grease_byte.Tie as tie
 
-mul-result : tie.Need-mul-result
-mul-result c = search needs
-
-add-result : tie.Need-add-result
-add-result c = search needs
-
-cast-result : tie.Need-cast-result
-cast-result c = search needs
-
 returns : tie.Need-returns
 unfolding greaseByte
 returns c = refl
 
 pub grease-byte-spec : {M : Type 1} → statement M
-grease-byte-spec = tie.close (tie.spec mul-result add-result cast-result returns)
+grease-byte-spec =
+    tie.close
+    (tie.spec
+    (λ c. search needs)  -- mul-result
+    (λ c. search needs)  -- add-result
+    (λ c. search needs)  -- cast-result
+    returns)

@@ -6,21 +6,16 @@ use borrow.Author.Needs.{needs}
 use Rattle.tape.proofs.grease_tp_id.Statement.{statement}
 use Rattle.tape.proofs.grease_tp_id.Tie as tie
 
-add-id : tie.Need-add-id
-add-id c = search needs
-
-add-result : tie.Need-add-result
-add-result c = search needs
-
-sub-result : tie.Need-sub-result
-sub-result c = search needs
-
-add-result-2 : tie.Need-add-result-2
-add-result-2 c = search needs
-
 returns : tie.Need-returns
 unfolding greaseId raised
 returns c = (refl, omega arith)
 
 pub grease-tp-id-spec : {M : Type 1} → statement M
-grease-tp-id-spec = tie.close (tie.spec add-id add-result sub-result add-result-2 returns)
+grease-tp-id-spec =
+    tie.close
+    (tie.spec
+    (λ c. search needs)  -- add-id
+    (λ c. search needs)  -- add-result
+    (λ c. search needs)  -- sub-result
+    (λ c. search needs)  -- add-result-2
+    returns)

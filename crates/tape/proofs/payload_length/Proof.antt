@@ -6,12 +6,13 @@ use borrow.Author.Needs.{needs}
 use Rattle.tape.proofs.payload_length.Statement.{statement}
 use Rattle.tape.proofs.payload_length.Tie as tie
 
-add-result : tie.Need-add-result
-add-result c = search needs
-
 returns : tie.Need-returns
 unfolding payloadLength
 returns c = (refl, omega arith, omega arith)
 
 pub payload-length-spec : {M : Type 1} → statement M
-payload-length-spec = tie.close (tie.spec add-result returns)
+payload-length-spec =
+    tie.close
+    (tie.spec
+    (λ c. search needs)  -- add-result
+    returns)

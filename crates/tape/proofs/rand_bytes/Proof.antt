@@ -8,24 +8,6 @@ use borrow.Author.Needs.{needs}
 use Rattle.tape.proofs.rand_bytes.Statement.{statement}
 use Rattle.tape.proofs.rand_bytes.Tie as tie
 
-add-end : tie.Need-add-end
-add-end c = search needs
-
-sub-put-bytes : tie.Need-sub-put-bytes
-sub-put-bytes c = search needs
-
-part-put-bytes-start : tie.Need-part-put-bytes-start
-part-put-bytes-start c = search needs
-
-part-put-bytes-end : tie.Need-part-put-bytes-end
-part-put-bytes-end c = search needs
-
-put-bytes-requires : tie.Need-put-bytes-requires
-put-bytes-requires c κs = search needs
-
-same-length : tie.Need-same-length
-same-length c = search needs
-
 returns : tie.Need-returns
 returns c =
     let start = c .before .before .before .before .before .before .before in
@@ -37,10 +19,10 @@ pub rand-bytes-spec : {M : Type 1} → statement M
 rand-bytes-spec =
     tie.close
     (tie.spec
-    add-end
-    sub-put-bytes
-    part-put-bytes-start
-    part-put-bytes-end
-    put-bytes-requires
-    same-length
+    (λ c. search needs)  -- add-end
+    (λ c. search needs)  -- sub-put-bytes
+    (λ c. search needs)  -- part-put-bytes-start
+    (λ c. search needs)  -- part-put-bytes-end
+    (λ c κs. search needs)  -- put-bytes-requires
+    (λ c. search needs)  -- same-length
     returns)

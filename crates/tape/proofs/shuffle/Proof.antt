@@ -21,21 +21,6 @@ loop-holds : tie.Need-loop-holds Inv-loop μ-loop
 unfolding shuffle
 loop-holds c = (omega arith, refl, refl, refl)
 
-sub-i : tie.Need-sub-i Inv-loop μ-loop
-sub-i c = omega arith
-
-place-up-to-requires : tie.Need-place-up-to-requires Inv-loop μ-loop
-place-up-to-requires c κs = omega arith
-
-swap-requires : tie.Need-swap-requires Inv-loop μ-loop
-swap-requires c κs = omega arith
-
-add-t : tie.Need-add-t Inv-loop μ-loop
-add-t c = omega arith
-
-loop-less : tie.Need-loop-less Inv-loop μ-loop
-loop-less c = omega arith
-
 loop-again : tie.Need-loop-again Inv-loop μ-loop
 loop-again c =
     let draw = c .before .before .before .before in
@@ -44,9 +29,6 @@ loop-again c =
     let l = turn .loop in
     let kept = sym (shuffle-turn 0 (l .v) (now (args .tape)) (l .t) (l .i) (draw .before .loop-test .taken)) ∙ l .inv .3 in
     (omega arith, omega arith, omega arith, rw (c .before .before .swap .ensures, draw .place-up-to .ensures .0) kept)
-
-same-length : tie.Need-same-length Inv-loop μ-loop
-same-length c = omega arith
 
 returns : tie.Need-returns Inv-loop μ-loop
 returns c =
@@ -61,11 +43,11 @@ shuffle-spec =
     Inv-loop
     μ-loop
     loop-holds
-    sub-i
-    place-up-to-requires
-    swap-requires
-    add-t
-    loop-less
+    (λ c. omega arith)  -- sub-i
+    (λ c κs. omega arith)  -- place-up-to-requires
+    (λ c κs. omega arith)  -- swap-requires
+    (λ c. omega arith)  -- add-t
+    (λ c. omega arith)  -- loop-less
     loop-again
-    same-length
+    (λ c. omega arith)  -- same-length
     returns)

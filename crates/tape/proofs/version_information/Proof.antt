@@ -5,18 +5,6 @@ use borrow.Author.Needs.{needs}
 use Rattle.tape.proofs.version_information.Statement.{statement}
 use Rattle.tape.proofs.version_information.Tie as tie
 
-grease-byte-requires : tie.Need-grease-byte-requires
-grease-byte-requires c κs = search needs
-
-grease-byte-requires-2 : tie.Need-grease-byte-requires-2
-grease-byte-requires-2 c κs = search needs
-
-grease-byte-requires-3 : tie.Need-grease-byte-requires-3
-grease-byte-requires-3 c κs = search needs
-
-grease-byte-requires-4 : tie.Need-grease-byte-requires-4
-grease-byte-requires-4 c κs = search needs
-
 returns : tie.Need-returns
 unfolding versionInformation digits
 returns c =
@@ -27,8 +15,8 @@ pub version-information-spec : {M : Type 1} → statement M
 version-information-spec =
     tie.close
     (tie.spec
-    grease-byte-requires
-    grease-byte-requires-2
-    grease-byte-requires-3
-    grease-byte-requires-4
+    (λ c κs. search needs)  -- grease-byte-requires
+    (λ c κs. search needs)  -- grease-byte-requires-2
+    (λ c κs. search needs)  -- grease-byte-requires-3
+    (λ c κs. search needs)  -- grease-byte-requires-4
     returns)

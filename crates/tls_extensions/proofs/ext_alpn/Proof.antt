@@ -24,45 +24,6 @@ alpn-is name =
     rw (append-nil, append-assoc ((digits 256 2 16 ++ digits 256 2 (2 + (1 + n))) ++ digits 256 2 (1 + n)))
     (list-extension-is 2 16 (1 + n) (vector 1 name) (length-vector 1 name))
 
-add-put-list-head : tie.Need-add-put-list-head
-add-put-list-head c = search needs
-
-put-list-head-requires : tie.Need-put-list-head-requires
-put-list-head-requires c κs = search needs
-
-sub-w8 : tie.Need-sub-w8
-sub-w8 c = search needs
-
-part-w8-start : tie.Need-part-w8-start
-part-w8-start c = search needs
-
-part-w8-end : tie.Need-part-w8-end
-part-w8-end c = search needs
-
-cast-w8 : tie.Need-cast-w8
-cast-w8 c = search needs
-
-w8-requires : tie.Need-w8-requires
-w8-requires c κs = search needs
-
-sub-put-bytes : tie.Need-sub-put-bytes
-sub-put-bytes c = search needs
-
-part-put-bytes-start : tie.Need-part-put-bytes-start
-part-put-bytes-start c = search needs
-
-part-put-bytes-end : tie.Need-part-put-bytes-end
-part-put-bytes-end c = search needs
-
-put-bytes-requires : tie.Need-put-bytes-requires
-put-bytes-requires c κs = search needs
-
-add-result : tie.Need-add-result
-add-result c = search needs
-
-same-length : tie.Need-same-length
-same-length c = search needs
-
 returns : tie.Need-returns
 returns c =
     let args = c .before .before .before .before .before .before .before .before .before .before .before .before .before .before .args in
@@ -78,17 +39,17 @@ pub ext-alpn-spec : {M : Type 1} → statement M
 ext-alpn-spec =
     tie.close
     (tie.spec
-    add-put-list-head
-    put-list-head-requires
-    sub-w8
-    part-w8-start
-    part-w8-end
-    cast-w8
-    w8-requires
-    sub-put-bytes
-    part-put-bytes-start
-    part-put-bytes-end
-    put-bytes-requires
-    add-result
-    same-length
+    (λ c. search needs)  -- add-put-list-head
+    (λ c κs. search needs)  -- put-list-head-requires
+    (λ c. search needs)  -- sub-w8
+    (λ c. search needs)  -- part-w8-start
+    (λ c. search needs)  -- part-w8-end
+    (λ c. search needs)  -- cast-w8
+    (λ c κs. search needs)  -- w8-requires
+    (λ c. search needs)  -- sub-put-bytes
+    (λ c. search needs)  -- part-put-bytes-start
+    (λ c. search needs)  -- part-put-bytes-end
+    (λ c κs. search needs)  -- put-bytes-requires
+    (λ c. search needs)  -- add-result
+    (λ c. search needs)  -- same-length
     returns)

@@ -7,31 +7,19 @@ use borrow.Author.Needs.{needs}
 use Rattle.tls_extensions.proofs.ext_compress_cert.Statement.{statement}
 use Rattle.tls_extensions.proofs.ext_compress_cert.Tie as tie
 
-slice-aggregate-put-extension : tie.Need-slice-aggregate-put-extension
-slice-aggregate-put-extension c = search needs
-
 put-extension-requires : tie.Need-put-extension-requires
 put-extension-requires c κs =
     let room = rw (length-compress-cert (c .before .before .before .before .args .firefox), (c .before .before .if1 .taken)) at (c .before .before .before .before .pre) in
     search needs
 
-same-length : tie.Need-same-length
-same-length c = search needs
-
 returns : tie.Need-returns
 unfolding extCompressCert vector words digits
 returns c = rw (c .before .before .before .before .before .if1 .taken) (c .before .before .put-extension .ensures)
-
-slice-aggregate-put-extension-2 : tie.Need-slice-aggregate-put-extension-2
-slice-aggregate-put-extension-2 c = search needs
 
 put-extension-requires-2 : tie.Need-put-extension-requires-2
 put-extension-requires-2 c κs =
     let room = rw (length-compress-cert (c .before .before .before .before .args .firefox), (c .before .before .if1 .left)) at (c .before .before .before .before .pre) in
     search needs
-
-same-length-2 : tie.Need-same-length-2
-same-length-2 c = search needs
 
 returns-2 : tie.Need-returns-2
 unfolding extCompressCert vector words digits
@@ -41,11 +29,11 @@ pub ext-compress-cert-spec : {M : Type 1} → statement M
 ext-compress-cert-spec =
     tie.close
     (tie.spec
-    slice-aggregate-put-extension
+    (λ c. search needs)  -- slice-aggregate-put-extension
     put-extension-requires
-    same-length
+    (λ c. search needs)  -- same-length
     returns
-    slice-aggregate-put-extension-2
+    (λ c. search needs)  -- slice-aggregate-put-extension-2
     put-extension-requires-2
-    same-length-2
+    (λ c. search needs)  -- same-length-2
     returns-2)

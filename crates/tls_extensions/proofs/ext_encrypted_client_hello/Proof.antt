@@ -37,70 +37,10 @@ drawn-length :
     c .payload-length .result ≡ payloadLength (nextU64 (now (args .tape)) (args .at + 40))
 drawn-length c = rw (c .before .next-u642 .ensures .0) at (c .payload-length .ensures .0)
 
-next-u64-requires : tie.Need-next-u64-requires
-next-u64-requires c κs = search needs
-
-cast-config : tie.Need-cast-config
-cast-config c = search needs
-
-add-next-u64 : tie.Need-add-next-u64
-add-next-u64 c = search needs
-
-next-u64-requires-2 : tie.Need-next-u64-requires-2
-next-u64-requires-2 c κs = search needs
-
-payload-length-requires : tie.Need-payload-length-requires
-payload-length-requires c κs = search needs
-
-add-put-ech-head : tie.Need-add-put-ech-head
-add-put-ech-head c = search needs
-
-put-ech-head-requires : tie.Need-put-ech-head-requires
-put-ech-head-requires c κs = search needs
-
-sub-put-random-vector : tie.Need-sub-put-random-vector
-sub-put-random-vector c = search needs
-
-part-put-random-vector-start : tie.Need-part-put-random-vector-start
-part-put-random-vector-start c = search needs
-
-part-put-random-vector-end : tie.Need-part-put-random-vector-end
-part-put-random-vector-end c = search needs
-
-add-put-random-vector : tie.Need-add-put-random-vector
-add-put-random-vector c = search needs
-
-put-random-vector-requires : tie.Need-put-random-vector-requires
-put-random-vector-requires c κs = search needs
-
-sub-put-random-vector-2 : tie.Need-sub-put-random-vector-2
-sub-put-random-vector-2 c = search needs
-
-part-put-random-vector-start-2 : tie.Need-part-put-random-vector-start-2
-part-put-random-vector-start-2 c = search needs
-
-part-put-random-vector-end-2 : tie.Need-part-put-random-vector-end-2
-part-put-random-vector-end-2 c = search needs
-
-add-put-random-vector-2 : tie.Need-add-put-random-vector-2
-add-put-random-vector-2 c = search needs
-
 put-random-vector-requires-2 : tie.Need-put-random-vector-requires-2
 put-random-vector-requires-2 c κs =
     let start = c .before .before .before .before .before .before .before .before .before .before .before .before .before .before in
     omega (arith, drawn-length (c .before .before .before .before .before .before .before .before .before), start .pre)
-
-add-t15 : tie.Need-add-t15
-add-t15 c = search needs
-
-add-t8 : tie.Need-add-t8
-add-t8 c = search needs
-
-add-t19 : tie.Need-add-t19
-add-t19 c = search needs
-
-same-length : tie.Need-same-length
-same-length c = search needs
 
 returns : tie.Need-returns
 unfolding extEncryptedClientHello
@@ -128,25 +68,25 @@ pub ext-encrypted-client-hello-spec : {M : Type 1} → statement M
 ext-encrypted-client-hello-spec =
     tie.close
     (tie.spec
-    next-u64-requires
-    cast-config
-    add-next-u64
-    next-u64-requires-2
-    payload-length-requires
-    add-put-ech-head
-    put-ech-head-requires
-    sub-put-random-vector
-    part-put-random-vector-start
-    part-put-random-vector-end
-    add-put-random-vector
-    put-random-vector-requires
-    sub-put-random-vector-2
-    part-put-random-vector-start-2
-    part-put-random-vector-end-2
-    add-put-random-vector-2
+    (λ c κs. search needs)  -- next-u64-requires
+    (λ c. search needs)  -- cast-config
+    (λ c. search needs)  -- add-next-u64
+    (λ c κs. search needs)  -- next-u64-requires-2
+    (λ c κs. search needs)  -- payload-length-requires
+    (λ c. search needs)  -- add-put-ech-head
+    (λ c κs. search needs)  -- put-ech-head-requires
+    (λ c. search needs)  -- sub-put-random-vector
+    (λ c. search needs)  -- part-put-random-vector-start
+    (λ c. search needs)  -- part-put-random-vector-end
+    (λ c. search needs)  -- add-put-random-vector
+    (λ c κs. search needs)  -- put-random-vector-requires
+    (λ c. search needs)  -- sub-put-random-vector-2
+    (λ c. search needs)  -- part-put-random-vector-start-2
+    (λ c. search needs)  -- part-put-random-vector-end-2
+    (λ c. search needs)  -- add-put-random-vector-2
     put-random-vector-requires-2
-    add-t15
-    add-t8
-    add-t19
-    same-length
+    (λ c. search needs)  -- add-t15
+    (λ c. search needs)  -- add-t8
+    (λ c. search needs)  -- add-t19
+    (λ c. search needs)  -- same-length
     returns)

@@ -26,9 +26,6 @@ sub-put-key-shares c = omega (arith, c .before .before .before .pre .fits, long 
 part-put-key-shares-start : tie.Need-part-put-key-shares-start
 part-put-key-shares-start c = omega (arith, c .before .before .before .pre .fits, long (c .before .before))
 
-part-put-key-shares-end : tie.Need-part-put-key-shares-end
-part-put-key-shares-end c = search needs
-
 put-key-shares-requires : tie.Need-put-key-shares-requires
 unfolding extKeyShare
 put-key-shares-requires c κs =
@@ -48,9 +45,6 @@ add-t7 c =
     let size = long (c .before .before .before .before .before .before .before .before .before .before .before) in
     let pre = c .before .before .before .before .before .before .before .before .before .before .before .before .pre in
     omega (arith, pre .small, size, c .before .before .before .before .before .before .before .put-key-shares .ensures .put .count)
-
-same-length : tie.Need-same-length
-same-length c = search needs
 
 returns : tie.Need-returns
 unfolding extKeyShare
@@ -74,9 +68,9 @@ ext-key-share-spec =
     (tie.spec
     sub-put-key-shares
     part-put-key-shares-start
-    part-put-key-shares-end
+    (λ c. search needs)  -- part-put-key-shares-end
     put-key-shares-requires
     put-list-head-requires
     add-t7
-    same-length
+    (λ c. search needs)  -- same-length
     returns)

@@ -14,29 +14,8 @@ use borrow.Author.Needs.{needs}
 use Rattle.tls_extensions.proofs.ext_server_name.Statement.{statement}
 use Rattle.tls_extensions.proofs.ext_server_name.Tie as tie
 
-add-put-list-head : tie.Need-add-put-list-head
-add-put-list-head c = search needs
-
-put-list-head-requires : tie.Need-put-list-head-requires
-put-list-head-requires c κs = search needs
-
-sub-put-host-name : tie.Need-sub-put-host-name
-sub-put-host-name c = search needs
-
-part-put-host-name-start : tie.Need-part-put-host-name-start
-part-put-host-name-start c = search needs
-
-part-put-host-name-end : tie.Need-part-put-host-name-end
-part-put-host-name-end c = search needs
-
-put-host-name-requires : tie.Need-put-host-name-requires
-put-host-name-requires c κs = search needs
-
 add-result : tie.Need-add-result
 add-result c = omega (arith, c .before .before .put-host-name .ensures .count, length-vector 2 (now (c .before .before .before .before .before .before .before .before .before .before .args .name)))
-
-same-length : tie.Need-same-length
-same-length c = search needs
 
 returns : tie.Need-returns
 unfolding extServerName
@@ -53,12 +32,12 @@ pub ext-server-name-spec : {M : Type 1} → statement M
 ext-server-name-spec =
     tie.close
     (tie.spec
-    add-put-list-head
-    put-list-head-requires
-    sub-put-host-name
-    part-put-host-name-start
-    part-put-host-name-end
-    put-host-name-requires
+    (λ c. search needs)  -- add-put-list-head
+    (λ c κs. search needs)  -- put-list-head-requires
+    (λ c. search needs)  -- sub-put-host-name
+    (λ c. search needs)  -- part-put-host-name-start
+    (λ c. search needs)  -- part-put-host-name-end
+    (λ c κs. search needs)  -- put-host-name-requires
     add-result
-    same-length
+    (λ c. search needs)  -- same-length
     returns)

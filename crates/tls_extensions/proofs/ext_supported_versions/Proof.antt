@@ -12,49 +12,10 @@ use borrow.Author.Needs.{needs}
 use Rattle.tls_extensions.proofs.ext_supported_versions.Statement.{statement}
 use Rattle.tls_extensions.proofs.ext_supported_versions.Tie as tie
 
-mul-n : tie.Need-mul-n
-mul-n c = search needs
-
-add-put-head : tie.Need-add-put-head
-add-put-head c = search needs
-
-put-head-requires : tie.Need-put-head-requires
-put-head-requires c κs = search needs
-
-sub-w8 : tie.Need-sub-w8
-sub-w8 c = search needs
-
-part-w8-start : tie.Need-part-w8-start
-part-w8-start c = search needs
-
-part-w8-end : tie.Need-part-w8-end
-part-w8-end c = search needs
-
-cast-w8 : tie.Need-cast-w8
-cast-w8 c = search needs
-
-w8-requires : tie.Need-w8-requires
-w8-requires c κs = search needs
-
-sub-put-words : tie.Need-sub-put-words
-sub-put-words c = search needs
-
-part-put-words-start : tie.Need-part-put-words-start
-part-put-words-start c = search needs
-
-part-put-words-end : tie.Need-part-put-words-end
-part-put-words-end c = search needs
-
-put-words-requires : tie.Need-put-words-requires
-put-words-requires c κs = search needs
-
 add-result : tie.Need-add-result
 add-result c =
     let versions = now (c .before .before .before .before .before .before .before .before .before .before .before .before .before .before .args .versions) in
     omega (arith, c .before .before .put-words .ensures .count, length-words versions)
-
-same-length : tie.Need-same-length
-same-length c = search needs
 
 returns : tie.Need-returns
 unfolding extSupportedVersions
@@ -73,18 +34,18 @@ pub ext-supported-versions-spec : {M : Type 1} → statement M
 ext-supported-versions-spec =
     tie.close
     (tie.spec
-    mul-n
-    add-put-head
-    put-head-requires
-    sub-w8
-    part-w8-start
-    part-w8-end
-    cast-w8
-    w8-requires
-    sub-put-words
-    part-put-words-start
-    part-put-words-end
-    put-words-requires
+    (λ c. search needs)  -- mul-n
+    (λ c. search needs)  -- add-put-head
+    (λ c κs. search needs)  -- put-head-requires
+    (λ c. search needs)  -- sub-w8
+    (λ c. search needs)  -- part-w8-start
+    (λ c. search needs)  -- part-w8-end
+    (λ c. search needs)  -- cast-w8
+    (λ c κs. search needs)  -- w8-requires
+    (λ c. search needs)  -- sub-put-words
+    (λ c. search needs)  -- part-put-words-start
+    (λ c. search needs)  -- part-put-words-end
+    (λ c κs. search needs)  -- put-words-requires
     add-result
-    same-length
+    (λ c. search needs)  -- same-length
     returns)

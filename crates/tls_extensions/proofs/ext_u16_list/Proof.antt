@@ -12,29 +12,8 @@ use borrow.Author.Needs.{needs}
 use Rattle.tls_extensions.proofs.ext_u16_list.Statement.{statement}
 use Rattle.tls_extensions.proofs.ext_u16_list.Tie as tie
 
-mul-put-list-head : tie.Need-mul-put-list-head
-mul-put-list-head c = search needs
-
-put-list-head-requires : tie.Need-put-list-head-requires
-put-list-head-requires c κs = search needs
-
-sub-put-words : tie.Need-sub-put-words
-sub-put-words c = search needs
-
-part-put-words-start : tie.Need-part-put-words-start
-part-put-words-start c = search needs
-
-part-put-words-end : tie.Need-part-put-words-end
-part-put-words-end c = search needs
-
-put-words-requires : tie.Need-put-words-requires
-put-words-requires c κs = search needs
-
 add-result : tie.Need-add-result
 add-result c = omega (arith, c .before .before .put-words .ensures .count, length-words (now (c .before .before .before .before .before .before .before .before .before .before .args .values)))
-
-same-length : tie.Need-same-length
-same-length c = search needs
 
 returns : tie.Need-returns
 unfolding extU16List
@@ -51,12 +30,12 @@ pub ext-u16-list-spec : {M : Type 1} → statement M
 ext-u16-list-spec =
     tie.close
     (tie.spec
-    mul-put-list-head
-    put-list-head-requires
-    sub-put-words
-    part-put-words-start
-    part-put-words-end
-    put-words-requires
+    (λ c. search needs)  -- mul-put-list-head
+    (λ c κs. search needs)  -- put-list-head-requires
+    (λ c. search needs)  -- sub-put-words
+    (λ c. search needs)  -- part-put-words-start
+    (λ c. search needs)  -- part-put-words-end
+    (λ c κs. search needs)  -- put-words-requires
     add-result
-    same-length
+    (λ c. search needs)  -- same-length
     returns)

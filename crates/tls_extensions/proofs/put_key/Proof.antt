@@ -10,9 +10,6 @@ use borrow.Author.Needs.{needs}
 use Rattle.tls_extensions.proofs.put_key.Statement.{statement}
 use Rattle.tls_extensions.proofs.put_key.Tie as tie
 
-key-share-size-requires : tie.Need-key-share-size-requires
-key-share-size-requires c κs = search needs
-
 w8-requires : tie.Need-w8-requires
 w8-requires c κs = omega (arith, size-secp (c .before .if1 .taken))
 
@@ -21,9 +18,6 @@ sub-rand-bytes c = omega (arith, size-secp (c .before .before .before .before .i
 
 part-rand-bytes-start : tie.Need-part-rand-bytes-start
 part-rand-bytes-start c = omega (arith, size-secp (c .before .before .before .before .if1 .taken))
-
-part-rand-bytes-end : tie.Need-part-rand-bytes-end
-part-rand-bytes-end c = search needs
 
 sub-rand-bytes-2 : tie.Need-sub-rand-bytes-2
 sub-rand-bytes-2 c = omega (arith, size-secp (c .before .before .before .before .before .if1 .taken))
@@ -34,9 +28,6 @@ rand-bytes-requires c κs =
     let size = size-secp secp in
     let draws = draws-secp secp in
     search needs
-
-same-length : tie.Need-same-length
-same-length c = search needs
 
 returns : tie.Need-returns
 returns c =
@@ -57,9 +48,6 @@ rand-bytes-requires-2 c κs =
     let draws = draws-other (c .before .if1 .left) in
     search needs
 
-same-length-2 : tie.Need-same-length-2
-same-length-2 c = search needs
-
 returns-2 : tie.Need-returns-2
 returns-2 c =
     let args = c .before .before .before .before .before .before .before .before .before .args in
@@ -75,15 +63,15 @@ pub put-key-spec : {M : Type 1} → statement M
 put-key-spec =
     tie.close
     (tie.spec
-    key-share-size-requires
+    (λ c κs. search needs)  -- key-share-size-requires
     w8-requires
     sub-rand-bytes
     part-rand-bytes-start
-    part-rand-bytes-end
+    (λ c. search needs)  -- part-rand-bytes-end
     sub-rand-bytes-2
     rand-bytes-requires
-    same-length
+    (λ c. search needs)  -- same-length
     returns
     rand-bytes-requires-2
-    same-length-2
+    (λ c. search needs)  -- same-length-2
     returns-2)

@@ -13,48 +13,6 @@ use borrow.Author.Needs.{needs}
 use Rattle.tls_extensions.proofs.put_key_share.Statement.{statement}
 use Rattle.tls_extensions.proofs.put_key_share.Tie as tie
 
-key-share-size-requires : tie.Need-key-share-size-requires
-key-share-size-requires c κs = search needs
-
-w16-requires : tie.Need-w16-requires
-w16-requires c κs = search needs
-
-sub-w16 : tie.Need-sub-w16
-sub-w16 c = search needs
-
-part-w16-start : tie.Need-part-w16-start
-part-w16-start c = search needs
-
-part-w16-end : tie.Need-part-w16-end
-part-w16-end c = search needs
-
-cast-w16 : tie.Need-cast-w16
-cast-w16 c = search needs
-
-w16-requires-2 : tie.Need-w16-requires-2
-w16-requires-2 c κs = search needs
-
-sub-put-key : tie.Need-sub-put-key
-sub-put-key c = search needs
-
-part-put-key-start : tie.Need-part-put-key-start
-part-put-key-start c = search needs
-
-part-put-key-end : tie.Need-part-put-key-end
-part-put-key-end c = search needs
-
-put-key-requires : tie.Need-put-key-requires
-put-key-requires c κs = search needs
-
-add-t11 : tie.Need-add-t11
-add-t11 c = search needs
-
-add-t18 : tie.Need-add-t18
-add-t18 c = search needs
-
-same-length : tie.Need-same-length
-same-length c = search needs
-
 returns : tie.Need-returns
 unfolding keyShare
 returns c =
@@ -77,18 +35,18 @@ pub put-key-share-spec : {M : Type 1} → statement M
 put-key-share-spec =
     tie.close
     (tie.spec
-    key-share-size-requires
-    w16-requires
-    sub-w16
-    part-w16-start
-    part-w16-end
-    cast-w16
-    w16-requires-2
-    sub-put-key
-    part-put-key-start
-    part-put-key-end
-    put-key-requires
-    add-t11
-    add-t18
-    same-length
+    (λ c κs. search needs)  -- key-share-size-requires
+    (λ c κs. search needs)  -- w16-requires
+    (λ c. search needs)  -- sub-w16
+    (λ c. search needs)  -- part-w16-start
+    (λ c. search needs)  -- part-w16-end
+    (λ c. search needs)  -- cast-w16
+    (λ c κs. search needs)  -- w16-requires-2
+    (λ c. search needs)  -- sub-put-key
+    (λ c. search needs)  -- part-put-key-start
+    (λ c. search needs)  -- part-put-key-end
+    (λ c κs. search needs)  -- put-key-requires
+    (λ c. search needs)  -- add-t11
+    (λ c. search needs)  -- add-t18
+    (λ c. search needs)  -- same-length
     returns)

@@ -66,15 +66,6 @@ sub-put-key-share c = place-within (c .before .loop .inv .1 .writing)
 part-put-key-share-start : tie.Need-part-put-key-share-start Inv-loop μ-loop
 part-put-key-share-start c = place-within (c .before .loop .inv .1 .writing)
 
-part-put-key-share-end : tie.Need-part-put-key-share-end Inv-loop μ-loop
-part-put-key-share-end c = search needs
-
-mul-t14 : tie.Need-mul-t14 Inv-loop μ-loop
-mul-t14 c = search needs
-
-shared-slice-read-t16 : tie.Need-shared-slice-read-t16 Inv-loop μ-loop
-shared-slice-read-t16 c = search needs
-
 put-key-share-requires : tie.Need-put-key-share-requires Inv-loop μ-loop
 unfolding keyShare
 put-key-share-requires c κs =
@@ -92,12 +83,6 @@ add-n : tie.Need-add-n Inv-loop μ-loop
 add-n c =
     let start = c .before .before .before .before .before .before .before .before .before .before .before in
     omega (arith, next-drawn c .writing .within, start .pre .small)
-
-add-i : tie.Need-add-i Inv-loop μ-loop
-add-i c = omega arith
-
-loop-less : tie.Need-loop-less Inv-loop μ-loop
-loop-less c = omega arith
 
 loop-again : tie.Need-loop-again Inv-loop μ-loop
 loop-again c = (omega arith, next-drawn c)
@@ -123,13 +108,13 @@ put-key-shares-spec =
     loop-holds
     sub-put-key-share
     part-put-key-share-start
-    part-put-key-share-end
-    mul-t14
-    shared-slice-read-t16
+    (λ c. search needs)  -- part-put-key-share-end
+    (λ c. search needs)  -- mul-t14
+    (λ c. search needs)  -- shared-slice-read-t16
     put-key-share-requires
     add-n
-    add-i
-    loop-less
+    (λ c. omega arith)  -- add-i
+    (λ c. omega arith)  -- loop-less
     loop-again
     same-length
     returns)

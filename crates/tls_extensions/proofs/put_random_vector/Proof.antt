@@ -8,27 +8,6 @@ use borrow.Author.Needs.{needs}
 use Rattle.tls_extensions.proofs.put_random_vector.Statement.{statement}
 use Rattle.tls_extensions.proofs.put_random_vector.Tie as tie
 
-cast-w16 : tie.Need-cast-w16
-cast-w16 c = search needs
-
-w16-requires : tie.Need-w16-requires
-w16-requires c κs = search needs
-
-sub-rand-bytes : tie.Need-sub-rand-bytes
-sub-rand-bytes c = search needs
-
-part-rand-bytes-start : tie.Need-part-rand-bytes-start
-part-rand-bytes-start c = search needs
-
-part-rand-bytes-end : tie.Need-part-rand-bytes-end
-part-rand-bytes-end c = search needs
-
-rand-bytes-requires : tie.Need-rand-bytes-requires
-rand-bytes-requires c κs = search needs
-
-same-length : tie.Need-same-length
-same-length c = search needs
-
 returns : tie.Need-returns
 unfolding vector
 returns c =
@@ -42,11 +21,11 @@ pub put-random-vector-spec : {M : Type 1} → statement M
 put-random-vector-spec =
     tie.close
     (tie.spec
-    cast-w16
-    w16-requires
-    sub-rand-bytes
-    part-rand-bytes-start
-    part-rand-bytes-end
-    rand-bytes-requires
-    same-length
+    (λ c. search needs)  -- cast-w16
+    (λ c κs. search needs)  -- w16-requires
+    (λ c. search needs)  -- sub-rand-bytes
+    (λ c. search needs)  -- part-rand-bytes-start
+    (λ c. search needs)  -- part-rand-bytes-end
+    (λ c κs. search needs)  -- rand-bytes-requires
+    (λ c. search needs)  -- same-length
     returns)

@@ -5,11 +5,12 @@ use borrow.Author.Needs.{needs}
 use Rattle.tls_parameters.proofs.at_most_two.Statement.{statement}
 use Rattle.tls_parameters.proofs.at_most_two.Tie as tie
 
-returns : tie.Need-returns
-returns c = search needs
-
 returns-2 : tie.Need-returns-2
 returns-2 c = (lit≤ tt, two-bytes (c .before .args .n) (c .if1 .left))
 
 pub at-most-two-spec : {M : Type 1} → statement M
-at-most-two-spec = tie.close (tie.spec returns returns-2)
+at-most-two-spec =
+    tie.close
+    (tie.spec
+    (λ c. search needs)  -- returns
+    returns-2)

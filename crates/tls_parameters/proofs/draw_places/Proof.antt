@@ -43,32 +43,11 @@ more c = rw (long (c .before .before .before .before)) (c .before .before .loop-
 loop-holds : tie.Need-loop-holds Inv-loop μ-loop
 loop-holds c = noted-none (listed (c .args .t1) (c .args .count)) (c .args .at) _ refl
 
-mul-of : tie.Need-mul-of Inv-loop μ-loop
-mul-of c = search needs
-
-array-write-of : tie.Need-array-write-of Inv-loop μ-loop
-array-write-of c = search needs
-
-mul-parameter-draws : tie.Need-mul-parameter-draws Inv-loop μ-loop
-mul-parameter-draws c = search needs
-
-array-copy-out-parameter-draws : tie.Need-array-copy-out-parameter-draws Inv-loop μ-loop
-array-copy-out-parameter-draws c = search needs
-
-parameter-draws-requires : tie.Need-parameter-draws-requires Inv-loop μ-loop
-parameter-draws-requires c κs = search needs
-
 add-t : tie.Need-add-t Inv-loop μ-loop
 add-t c =
     let pre = c .before .before .before .before .pre in
     let loop = c .before .before .before .loop in
     omega (arith, next-within (loop .inv) (more c) (drawn c), pre .1)
-
-add-i : tie.Need-add-i Inv-loop μ-loop
-add-i c = search needs
-
-loop-less : tie.Need-loop-less Inv-loop μ-loop
-loop-less c = search needs
 
 loop-again : tie.Need-loop-again Inv-loop μ-loop
 loop-again c =
@@ -86,13 +65,13 @@ draw-places-spec =
     Inv-loop
     μ-loop
     loop-holds
-    mul-of
-    array-write-of
-    mul-parameter-draws
-    array-copy-out-parameter-draws
-    parameter-draws-requires
+    (λ c. search needs)  -- mul-of
+    (λ c. search needs)  -- array-write-of
+    (λ c. search needs)  -- mul-parameter-draws
+    (λ c. search needs)  -- array-copy-out-parameter-draws
+    (λ c κs. search needs)  -- parameter-draws-requires
     add-t
-    add-i
-    loop-less
+    (λ c. search needs)  -- add-i
+    (λ c. search needs)  -- loop-less
     loop-again
     returns)

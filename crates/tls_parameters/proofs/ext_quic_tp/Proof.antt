@@ -68,15 +68,6 @@ body c =
 draw-places-requires : tie.Need-draw-places-requires
 draw-places-requires c κs = (c .before .before .before .pre .0, omega (arith, there (c .before .before .before), c .before .before .before .good))
 
-sub-shuffle : tie.Need-sub-shuffle
-sub-shuffle c = search needs
-
-part-order-start : tie.Need-part-order-start
-part-order-start c = search needs
-
-part-order-end : tie.Need-part-order-end
-part-order-end c = search needs
-
 shuffle-requires : tie.Need-shuffle-requires
 shuffle-requires c κs =
     let args = c .before .before .before .before .before .args in
@@ -91,15 +82,6 @@ sub-put-parameters c = omega (arith, fits (c .before .before .before .before .be
 
 part-put-parameters-start : tie.Need-part-put-parameters-start
 part-put-parameters-start c = omega (arith, fits (c .before .before .before .before .before .before .before .before))
-
-part-put-parameters-end : tie.Need-part-put-parameters-end
-part-put-parameters-end c = search needs
-
-sub-put-parameters-2 : tie.Need-sub-put-parameters-2
-sub-put-parameters-2 c = search needs
-
-part-put-parameters-start-2 : tie.Need-part-put-parameters-start-2
-part-put-parameters-start-2 c = search needs
 
 part-put-parameters-end-2 : tie.Need-part-put-parameters-end-2
 part-put-parameters-end-2 c =
@@ -137,9 +119,6 @@ add-t15 c =
     let after-put-parameters = c .before .before .before .before .before .before in
     omega (arith, fits start, (body after-put-parameters) .count)
 
-same-length : tie.Need-same-length
-same-length c = search needs
-
 returns : tie.Need-returns
 unfolding extQuicTp
 returns c =
@@ -162,18 +141,18 @@ ext-quic-tp-spec =
     tie.close
     (tie.spec
     draw-places-requires
-    sub-shuffle
-    part-order-start
-    part-order-end
+    (λ c. search needs)  -- sub-shuffle
+    (λ c. search needs)  -- part-order-start
+    (λ c. search needs)  -- part-order-end
     shuffle-requires
     sub-put-parameters
     part-put-parameters-start
-    part-put-parameters-end
-    sub-put-parameters-2
-    part-put-parameters-start-2
+    (λ c. search needs)  -- part-put-parameters-end
+    (λ c. search needs)  -- sub-put-parameters-2
+    (λ c. search needs)  -- part-put-parameters-start-2
     part-put-parameters-end-2
     put-parameters-requires
     put-head-requires
     add-t15
-    same-length
+    (λ c. search needs)  -- same-length
     returns)

@@ -9,18 +9,6 @@ use Rattle.tls_parameters.proofs.parameter_draws.Tie as tie
 enum-told : tie.Need-enum-told
 enum-told c = search needs
 
-enum-told-2 : tie.Need-enum-told-2
-enum-told-2 c = search needs
-
-enum-told-3 : tie.Need-enum-told-3
-enum-told-3 c = search needs
-
-enum-told-4 : tie.Need-enum-told-4
-enum-told-4 c = search needs
-
-enum-told-5 : tie.Need-enum-told-5
-enum-told-5 c = search needs
-
 returns : tie.Need-returns
 unfolding parameterDraws
 returns c = rw (c .enum-told .given .1) (refl, lit≤ tt)
@@ -46,10 +34,10 @@ parameter-draws-spec =
     tie.close
     (tie.spec
     enum-told
-    enum-told-2
-    enum-told-3
-    enum-told-4
-    enum-told-5
+    (λ c. search needs)  -- enum-told-2
+    (λ c. search needs)  -- enum-told-3
+    (λ c. search needs)  -- enum-told-4
+    (λ c. search needs)  -- enum-told-5
     returns
     returns-2
     returns-3

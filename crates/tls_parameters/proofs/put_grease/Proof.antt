@@ -15,27 +15,6 @@ id-is : (c : tie.After-grease-tp-id)
     c .grease-tp-id .result ≡ greaseId (nextU64 (now (args .tape)) (args .at))
 id-is c = c .grease-tp-id .ensures .0 ∙ ap greaseId (c .before .next-u64 .ensures .0)
 
-next-u64-requires : tie.Need-next-u64-requires
-next-u64-requires c κs = search needs
-
-grease-tp-id-requires : tie.Need-grease-tp-id-requires
-grease-tp-id-requires c κs = search needs
-
-add-a : tie.Need-add-a
-add-a c = search needs
-
-add-e : tie.Need-add-e
-add-e c = search needs
-
-sub-put-value : tie.Need-sub-put-value
-sub-put-value c = search needs
-
-part-put-value-start : tie.Need-part-put-value-start
-part-put-value-start c = search needs
-
-part-put-value-end : tie.Need-part-put-value-end
-part-put-value-end c = search needs
-
 put-value-requires : tie.Need-put-value-requires
 put-value-requires c κs =
     let args = c .before .before .before .before .before .before .args in
@@ -46,9 +25,6 @@ put-value-requires c κs =
     let at = args .at in
     rw (six-bytes tape at (pre .0))
     (grease-tp-id .ensures .1, omega (arith, length-randBytes 6 tape (at + 8)), rw (id-is after-grease-tp-id) (pre .1))
-
-same-length : tie.Need-same-length
-same-length c = search needs
 
 returns : tie.Need-returns
 returns c =
@@ -62,13 +38,13 @@ pub put-grease-spec : {M : Type 1} → statement M
 put-grease-spec =
     tie.close
     (tie.spec
-    next-u64-requires
-    grease-tp-id-requires
-    add-a
-    add-e
-    sub-put-value
-    part-put-value-start
-    part-put-value-end
+    (λ c κs. search needs)  -- next-u64-requires
+    (λ c κs. search needs)  -- grease-tp-id-requires
+    (λ c. search needs)  -- add-a
+    (λ c. search needs)  -- add-e
+    (λ c. search needs)  -- sub-put-value
+    (λ c. search needs)  -- part-put-value-start
+    (λ c. search needs)  -- part-put-value-end
     put-value-requires
-    same-length
+    (λ c. search needs)  -- same-length
     returns)

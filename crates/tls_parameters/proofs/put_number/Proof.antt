@@ -90,12 +90,6 @@ sub-put-varint c = place-within (id-done (c .before .before))
 part-put-varint-start : tie.Need-part-put-varint-start
 part-put-varint-start c = place-within (id-done (c .before .before))
 
-part-put-varint-end : tie.Need-part-put-varint-end
-part-put-varint-end c = search needs
-
-varint-length-requires : tie.Need-varint-length-requires
-varint-length-requires c κs = search needs
-
 put-varint-requires-2 : tie.Need-put-varint-requires-2
 put-varint-requires-2 c κs =
     let args = c .before .before .before .before .before .before .before .args in
@@ -113,9 +107,6 @@ sub-put-varint-2 c = place-within (length-done (c .before .before))
 part-put-varint-start-2 : tie.Need-part-put-varint-start-2
 part-put-varint-start-2 c = place-within (length-done (c .before .before))
 
-part-put-varint-end-2 : tie.Need-part-put-varint-end-2
-part-put-varint-end-2 c = search needs
-
 put-varint-requires-3 : tie.Need-put-varint-requires-3
 put-varint-requires-3 c κs =
     let args = c .before .before .before .before .before .before .before .before .before .before .before .args in
@@ -127,9 +118,6 @@ put-varint-requires-3 c κs =
 add-result : tie.Need-add-result
 add-result c = omega (arith, (all-done (c .before .before)) .count)
 
-same-length : tie.Need-same-length
-same-length c = search needs
-
 returns : tie.Need-returns
 returns c = all-done (c .before .before)
 
@@ -140,14 +128,14 @@ put-number-spec =
     put-varint-requires
     sub-put-varint
     part-put-varint-start
-    part-put-varint-end
-    varint-length-requires
+    (λ c. search needs)  -- part-put-varint-end
+    (λ c κs. search needs)  -- varint-length-requires
     put-varint-requires-2
     add-b
     sub-put-varint-2
     part-put-varint-start-2
-    part-put-varint-end-2
+    (λ c. search needs)  -- part-put-varint-end-2
     put-varint-requires-3
     add-result
-    same-length
+    (λ c. search needs)  -- same-length
     returns)

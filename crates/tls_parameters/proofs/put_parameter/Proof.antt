@@ -5,9 +5,6 @@ use borrow.Author.Needs.{needs}
 use Rattle.tls_parameters.proofs.put_parameter.Statement.{statement}
 use Rattle.tls_parameters.proofs.put_parameter.Tie as tie
 
-enum-known-entry : tie.Need-enum-known-entry
-enum-known-entry c = search needs
-
 put-number-requires : tie.Need-put-number-requires
 unfolding resolve
 put-number-requires c κs =
@@ -15,9 +12,6 @@ put-number-requires c κs =
     let entry = c .before .before .entry in
     let room = rw (entry .given .1) at pre in
     (room .varints .0, room .varints .1, room .fits)
-
-enum-known-entry-2 : tie.Need-enum-known-entry-2
-enum-known-entry-2 c = search needs
 
 put-raw-requires : tie.Need-put-raw-requires
 unfolding resolve
@@ -27,9 +21,6 @@ put-raw-requires c κs =
     let room = rw (entry2 .given .1) at pre in
     (room .varints, room .fits)
 
-enum-known-entry-3 : tie.Need-enum-known-entry-3
-enum-known-entry-3 c = search needs
-
 put-version-info-requires : tie.Need-put-version-info-requires
 unfolding resolve parameterDraws
 put-version-info-requires c κs =
@@ -37,9 +28,6 @@ put-version-info-requires c κs =
     let entry3 = c .before .before .entry3 in
     let room = rw (entry3 .given .1) at pre in
     (room .varints, room .there, room .fits)
-
-enum-known-entry-4 : tie.Need-enum-known-entry-4
-enum-known-entry-4 c = search needs
 
 put-value-requires : tie.Need-put-value-requires
 unfolding resolve
@@ -60,36 +48,21 @@ put-grease-requires c κs =
     let room = rw (enum-told .given .1) at pre in
     (room .there, room .fits)
 
-same-length : tie.Need-same-length
-same-length c = search needs
-
 returns : tie.Need-returns
 unfolding resolve
 returns c = rw (c .before .before .before .before .before .entry .given .1) (c .before .before .put-number .ensures)
-
-same-length-2 : tie.Need-same-length-2
-same-length-2 c = search needs
 
 returns-2 : tie.Need-returns-2
 unfolding resolve
 returns-2 c = rw (c .before .before .before .before .before .entry2 .given .1) (c .before .before .put-raw .ensures)
 
-same-length-3 : tie.Need-same-length-3
-same-length-3 c = search needs
-
 returns-3 : tie.Need-returns-3
 unfolding resolve
 returns-3 c = rw (c .before .before .before .before .before .entry3 .given .1) (c .before .before .put-version-info .ensures)
 
-same-length-4 : tie.Need-same-length-4
-same-length-4 c = search needs
-
 returns-4 : tie.Need-returns-4
 unfolding resolve
 returns-4 c = rw (c .before .before .before .before .before .entry4 .given .1) (c .before .before .put-value .ensures)
-
-same-length-5 : tie.Need-same-length-5
-same-length-5 c = search needs
 
 returns-5 : tie.Need-returns-5
 unfolding resolve
@@ -99,23 +72,23 @@ pub put-parameter-spec : {M : Type 1} → statement M
 put-parameter-spec =
     tie.close
     (tie.spec
-    enum-known-entry
+    (λ c. search needs)  -- enum-known-entry
     put-number-requires
-    enum-known-entry-2
+    (λ c. search needs)  -- enum-known-entry-2
     put-raw-requires
-    enum-known-entry-3
+    (λ c. search needs)  -- enum-known-entry-3
     put-version-info-requires
-    enum-known-entry-4
+    (λ c. search needs)  -- enum-known-entry-4
     put-value-requires
     enum-told
     put-grease-requires
-    same-length
+    (λ c. search needs)  -- same-length
     returns
-    same-length-2
+    (λ c. search needs)  -- same-length-2
     returns-2
-    same-length-3
+    (λ c. search needs)  -- same-length-3
     returns-3
-    same-length-4
+    (λ c. search needs)  -- same-length-4
     returns-4
-    same-length-5
+    (λ c. search needs)  -- same-length-5
     returns-5)

@@ -60,20 +60,11 @@ loop-holds c =
     let pre = c .before .before .before .before .pre in
     (omega arith, begins (parameters (picked (args .t2) (args .t3) (now (args .order)) (now (args .scid)) (now (args .tape)))) (now (args .out)) (pre .fits))
 
-mul-k : tie.Need-mul-k Inv-loop μ-loop
-mul-k c = search needs
-
-shared-slice-read-k : tie.Need-shared-slice-read-k Inv-loop μ-loop
-shared-slice-read-k c = search needs
-
 sub-put-parameter : tie.Need-sub-put-parameter Inv-loop μ-loop
 sub-put-parameter c = place-within (c .before .before .loop .inv .1)
 
 part-put-parameter-start : tie.Need-part-put-parameter-start Inv-loop μ-loop
 part-put-parameter-start c = place-within (c .before .before .loop .inv .1)
-
-part-put-parameter-end : tie.Need-part-put-parameter-end Inv-loop μ-loop
-part-put-parameter-end c = search needs
 
 mul-put-parameter : tie.Need-mul-put-parameter Inv-loop μ-loop
 mul-put-parameter c = omega (arith, pickable (c .before .before))
@@ -109,12 +100,6 @@ add-n c =
     let after-put-parameter = c .before .before in
     omega (arith, (written after-put-parameter) .within, pre .fits)
 
-add-i : tie.Need-add-i Inv-loop μ-loop
-add-i c = search needs
-
-loop-less : tie.Need-loop-less Inv-loop μ-loop
-loop-less c = search needs
-
 loop-again : tie.Need-loop-again Inv-loop μ-loop
 loop-again c = (omega arith, written (c .before .before))
 
@@ -135,19 +120,19 @@ put-parameters-spec =
     Inv-loop
     μ-loop
     loop-holds
-    mul-k
-    shared-slice-read-k
+    (λ c. search needs)  -- mul-k
+    (λ c. search needs)  -- shared-slice-read-k
     sub-put-parameter
     part-put-parameter-start
-    part-put-parameter-end
+    (λ c. search needs)  -- part-put-parameter-end
     mul-put-parameter
     array-copy-out-put-parameter
     mul-put-parameter-2
     array-read-put-parameter
     put-parameter-requires
     add-n
-    add-i
-    loop-less
+    (λ c. search needs)  -- add-i
+    (λ c. search needs)  -- loop-less
     loop-again
     same-length
     returns)

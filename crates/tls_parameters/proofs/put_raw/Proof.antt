@@ -16,30 +16,12 @@ value c =
     let e : at-most-two .result - 0 ≡ at-most-two .result = omega arith in
     rw (e, tp-bytes .ensures) (at-most-two .ensures .1)
 
-tp-bytes-requires : tie.Need-tp-bytes-requires
-tp-bytes-requires c κs = search needs
-
-at-most-two-requires : tie.Need-at-most-two-requires
-at-most-two-requires c κs = search needs
-
-sub-put-value : tie.Need-sub-put-value
-sub-put-value c = search needs
-
-part-put-value-start : tie.Need-part-put-value-start
-part-put-value-start c = search needs
-
-part-put-value-end : tie.Need-part-put-value-end
-part-put-value-end c = search needs
-
 put-value-requires : tie.Need-put-value-requires
 put-value-requires c κs =
     let pre = c .before .before .before .before .before .before .pre in
     let args = c .before .before .before .before .before .before .args in
     let after-at-most-two = c .before .before .before in
     rw (value after-at-most-two) (pre .0, raw-short (args .n), pre .1)
-
-same-length : tie.Need-same-length
-same-length c = search needs
 
 returns : tie.Need-returns
 returns c = rw (value (c .before .before .before .before .before .before)) at (c .before .before .put-value .ensures)
@@ -48,11 +30,11 @@ pub put-raw-spec : {M : Type 1} → statement M
 put-raw-spec =
     tie.close
     (tie.spec
-    tp-bytes-requires
-    at-most-two-requires
-    sub-put-value
-    part-put-value-start
-    part-put-value-end
+    (λ c κs. search needs)  -- tp-bytes-requires
+    (λ c κs. search needs)  -- at-most-two-requires
+    (λ c. search needs)  -- sub-put-value
+    (λ c. search needs)  -- part-put-value-start
+    (λ c. search needs)  -- part-put-value-end
     put-value-requires
-    same-length
+    (λ c. search needs)  -- same-length
     returns)

@@ -78,9 +78,6 @@ sub-put-varint c = place-within (id-done (c .before .before))
 part-put-varint-start : tie.Need-part-put-varint-start
 part-put-varint-start c = place-within (id-done (c .before .before))
 
-part-put-varint-end : tie.Need-part-put-varint-end
-part-put-varint-end c = search needs
-
 put-varint-requires-2 : tie.Need-put-varint-requires-2
 put-varint-requires-2 c κs =
     let args = c .before .before .before .before .before .before .before .args in
@@ -98,9 +95,6 @@ sub-put-bytes c = place-within (length-done (c .before .before))
 part-put-bytes-start : tie.Need-part-put-bytes-start
 part-put-bytes-start c = place-within (length-done (c .before .before))
 
-part-put-bytes-end : tie.Need-part-put-bytes-end
-part-put-bytes-end c = search needs
-
 put-bytes-requires : tie.Need-put-bytes-requires
 put-bytes-requires c κs =
     let args = c .before .before .before .before .before .before .before .before .before .before .before .args in
@@ -109,9 +103,6 @@ put-bytes-requires c κs =
 
 add-result : tie.Need-add-result
 add-result c = omega (arith, (all-done (c .before .before)) .count)
-
-same-length : tie.Need-same-length
-same-length c = search needs
 
 returns : tie.Need-returns
 returns c = all-done (c .before .before)
@@ -123,13 +114,13 @@ put-value-spec =
     put-varint-requires
     sub-put-varint
     part-put-varint-start
-    part-put-varint-end
+    (λ c. search needs)  -- part-put-varint-end
     put-varint-requires-2
     add-b
     sub-put-bytes
     part-put-bytes-start
-    part-put-bytes-end
+    (λ c. search needs)  -- part-put-bytes-end
     put-bytes-requires
     add-result
-    same-length
+    (λ c. search needs)  -- same-length
     returns)

@@ -13,15 +13,6 @@ value-is : (c : tie.After-version-information)
     c .version-information .result ≡ versionInformation (nextU64 (now (args .tape)) (args .at))
 value-is c = c .version-information .ensures ∙ ap versionInformation (c .before .next-u64 .ensures .0)
 
-next-u64-requires : tie.Need-next-u64-requires
-next-u64-requires c κs = search needs
-
-version-information-requires : tie.Need-version-information-requires
-version-information-requires c κs = search needs
-
-slice-aggregate-put-value : tie.Need-slice-aggregate-put-value
-slice-aggregate-put-value c = search needs
-
 put-value-requires : tie.Need-put-value-requires
 put-value-requires c κs =
     let args = c .before .before .before .before .before .before .args in
@@ -30,9 +21,6 @@ put-value-requires c κs =
     let drawn = nextU64 (now (args .tape)) (args .at) in
     rw (value-is after-version-information) (pre .0, omega (arith, length-version-information drawn), pre .2)
 
-same-length : tie.Need-same-length
-same-length c = search needs
-
 returns : tie.Need-returns
 returns c = rw (value-is (c .before .before .before .before .before)) at (c .before .before .put-value .ensures)
 
@@ -40,9 +28,9 @@ pub put-version-info-spec : {M : Type 1} → statement M
 put-version-info-spec =
     tie.close
     (tie.spec
-    next-u64-requires
-    version-information-requires
-    slice-aggregate-put-value
+    (λ c κs. search needs)  -- next-u64-requires
+    (λ c κs. search needs)  -- version-information-requires
+    (λ c. search needs)  -- slice-aggregate-put-value
     put-value-requires
-    same-length
+    (λ c. search needs)  -- same-length
     returns)

@@ -5,29 +5,17 @@ use borrow.Author.Needs.{needs}
 use Rattle.varint.proofs.class_of.Statement.{statement}
 use Rattle.varint.proofs.class_of.Tie as tie
 
-array-read-if1 : tie.Need-array-read-if1
-array-read-if1 c = search needs
-
 returns : tie.Need-returns
 unfolding class firstAbove
 returns c = simp (lt-ltb _ _ (c .if1 .taken))
-
-array-read-if2 : tie.Need-array-read-if2
-array-read-if2 c = search needs
 
 returns-2 : tie.Need-returns-2
 unfolding class firstAbove
 returns-2 c = simp (le-ltb _ _ (c .before .if1 .left), lt-ltb _ _ (c .if2 .taken))
 
-array-read-if3 : tie.Need-array-read-if3
-array-read-if3 c = search needs
-
 returns-3 : tie.Need-returns-3
 unfolding class firstAbove
 returns-3 c = simp (le-ltb _ _ (c .before .before .if1 .left), le-ltb _ _ (c .before .if2 .left), lt-ltb _ _ (c .if3 .taken))
-
-array-read-if4 : tie.Need-array-read-if4
-array-read-if4 c = search needs
 
 returns-4 : tie.Need-returns-4
 unfolding class firstAbove
@@ -49,12 +37,12 @@ pub class-of-spec : {M : Type 1} → statement M
 class-of-spec =
     tie.close
     (tie.spec
-    array-read-if1
+    (λ c. search needs)
     returns
-    array-read-if2
+    (λ c. search needs)
     returns-2
-    array-read-if3
+    (λ c. search needs)
     returns-3
-    array-read-if4
+    (λ c. search needs)
     returns-4
     returns-5)

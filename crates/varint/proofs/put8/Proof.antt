@@ -10,24 +10,6 @@ use borrow.Author.Needs.{needs}
 use Rattle.varint.proofs.put8.Statement.{statement}
 use Rattle.varint.proofs.put8.Tie as tie
 
-put4-requires : tie.Need-put4-requires
-put4-requires c κs = search needs
-
-sub-put4 : tie.Need-sub-put4
-sub-put4 c = search needs
-
-part-put4-start : tie.Need-part-put4-start
-part-put4-start c = search needs
-
-part-put4-end : tie.Need-part-put4-end
-part-put4-end c = search needs
-
-put4-requires-2 : tie.Need-put4-requires-2
-put4-requires-2 c κs = search needs
-
-same-length : tie.Need-same-length
-same-length c = search needs
-
 returns : tie.Need-returns
 returns c =
     let args = c .before .before .before .before .before .before .before .before .before .args in
@@ -40,10 +22,10 @@ pub put8-spec : {M : Type 1} → statement M
 put8-spec =
     tie.close
     (tie.spec
-    put4-requires
-    sub-put4
-    part-put4-start
-    part-put4-end
-    put4-requires-2
-    same-length
+    (λ c κs. search needs)
+    (λ c. search needs)
+    (λ c. search needs)
+    (λ c. search needs)
+    (λ c κs. search needs)
+    (λ c. search needs)
     returns)

@@ -35,9 +35,6 @@ cast-out c = record { fits = omega (arith, one-byte c .1) }
 slice-write-out : tie.Need-slice-write-out
 slice-write-out c = one-byte c .0
 
-same-length : tie.Need-same-length
-same-length c = search needs
-
 returns : tie.Need-returns
 unfolding form digits
 returns c =
@@ -45,9 +42,6 @@ returns c =
     let e : (c .before .before .args .value) % 256 ≡ (c .before .before .args .value) = omega (arith, w .1) in
     let z : 0 * 64 + (c .before .before .args .value) ≡ (c .before .before .args .value) = omega arith in
     rw (c .if1 .taken, z, e) (stores ((c .before .before .args .value) ∷ []) (now (c .before .before .args .out)) (w .0))
-
-array-read-w16 : tie.Need-array-read-w16
-array-read-w16 c = search needs
 
 add-w16 : tie.Need-add-w16
 add-w16 c = record { fits = omega (arith, two-bytes (c .before) .1) }
@@ -58,18 +52,9 @@ cast-w16 c = record { fits = omega (arith, two-bytes (c .before) .1) }
 w16-requires : tie.Need-w16-requires
 w16-requires c κs = two-bytes (c .before) .0
 
-same-length-2 : tie.Need-same-length-2
-same-length-2 c = search needs
-
 returns-2 : tie.Need-returns-2
 unfolding form
 returns-2 c = rw (c .before .before .before .before .if2 .taken) (c .before .before .w16 .ensures)
-
-array-read-put4 : tie.Need-array-read-put4
-array-read-put4 c = search needs
-
-mul-put4 : tie.Need-mul-put4
-mul-put4 c = search needs
 
 add-put4 : tie.Need-add-put4
 add-put4 c = record { fits = omega (arith, four-bytes (c .before) .1) }
@@ -77,27 +62,15 @@ add-put4 c = record { fits = omega (arith, four-bytes (c .before) .1) }
 put4-requires : tie.Need-put4-requires
 put4-requires c κs = four-bytes (c .before) .0
 
-same-length-3 : tie.Need-same-length-3
-same-length-3 c = search needs
-
 returns-3 : tie.Need-returns-3
 unfolding form
 returns-3 c = rw (c .before .before .before .before .if3 .taken) (c .before .before .put4 .ensures)
-
-array-read-put8 : tie.Need-array-read-put8
-array-read-put8 c = search needs
-
-mul-put8 : tie.Need-mul-put8
-mul-put8 c = search needs
 
 add-put8 : tie.Need-add-put8
 add-put8 c = record { fits = omega (arith, eight-bytes (c .before) .2) }
 
 put8-requires : tie.Need-put8-requires
 put8-requires c κs = eight-bytes (c .before) .1
-
-same-length-4 : tie.Need-same-length-4
-same-length-4 c = search needs
 
 returns-4 : tie.Need-returns-4
 unfolding form
@@ -109,23 +82,23 @@ put-form-spec =
     (tie.spec
     cast-out
     slice-write-out
-    same-length
+    (λ c. search needs)
     returns
-    array-read-w16
+    (λ c. search needs)
     add-w16
     cast-w16
     w16-requires
-    same-length-2
+    (λ c. search needs)
     returns-2
-    array-read-put4
-    mul-put4
+    (λ c. search needs)
+    (λ c. search needs)
     add-put4
     put4-requires
-    same-length-3
+    (λ c. search needs)
     returns-3
-    array-read-put8
-    mul-put8
+    (λ c. search needs)
+    (λ c. search needs)
     add-put8
     put8-requires
-    same-length-4
+    (λ c. search needs)
     returns-4)

@@ -5,18 +5,6 @@ use borrow.Author.Needs.{needs}
 use Rattle.varint.proofs.put_varint.Statement.{statement}
 use Rattle.varint.proofs.put_varint.Tie as tie
 
-write-requires : tie.Need-write-requires
-write-requires c κs = search needs
-
-enum-known-n : tie.Need-enum-known-n
-enum-known-n c = search needs
-
-enum-told : tie.Need-enum-told
-enum-told c = search needs
-
-same-length : tie.Need-same-length
-same-length c = search needs
-
 returns : tie.Need-returns
 returns c =
     let args = c .before .before .before .before .before .before .before .before .args in
@@ -24,9 +12,6 @@ returns c =
     let write = c .before .before .before .before .before .write in
     let n = c .before .n in
     put (args .value) (pre .0) (now (args .out)) (pre .1) (n .given .0 .0) (write .last .1 .0) (rw (n .given .1) at (write .ensures))
-
-same-length-2 : tie.Need-same-length-2
-same-length-2 c = search needs
 
 returns-2 : tie.Need-returns-2
 returns-2 c =
@@ -39,4 +24,4 @@ returns-2 c =
 pub put-varint-spec : {M : Type 1} → statement M
 put-varint-spec =
     tie.close
-    (tie.spec write-requires enum-known-n enum-told same-length returns same-length-2 returns-2)
+    (tie.spec (λ c κs. search needs) (λ c. search needs) (λ c. search needs) (λ c. search needs) returns (λ c. search needs) returns-2)

@@ -31,23 +31,8 @@ low-bytes c =
     low-four (wide .result) (wide2 .result) (wide3 .result) (c .wide4 .result) (wide2 .ensures .1) (wide3 .ensures .1) (c .wide4 .ensures .1)
     ∙ rw (wide .ensures .0, wide2 .ensures .0, wide3 .ensures .0, c .wide4 .ensures .0, number-four (now (args .input)) 0 (if5 .left))
 
-array-read-if1 : tie.Need-array-read-if1
-array-read-if1 c = search needs
-
 returns : tie.Need-returns
 returns c = found-none (now (c .before .before .args .input)) (c .if1 .taken)
-
-shared-slice-read-wide : tie.Need-shared-slice-read-wide
-shared-slice-read-wide c = search needs
-
-wide-requires : tie.Need-wide-requires
-wide-requires c κs = search needs
-
-array-read-whole : tie.Need-array-read-whole
-array-read-whole c = search needs
-
-whole-requires : tie.Need-whole-requires
-whole-requires c κs = search needs
 
 returns-2 : tie.Need-returns-2
 returns-2 c =
@@ -59,33 +44,12 @@ returns-2 c =
     let f = first (c .before .before) in
     rw (c .whole .ensures) (found s 0 (f .1 ∙ (if2 .taken)) (lit< tt) (if1 .left) ((wide .result) % 64) (omega (arith, number-one s (if1 .left), wide .ensures)))
 
-array-read-if3 : tie.Need-array-read-if3
-array-read-if3 c = search needs
-
 returns-3 : tie.Need-returns-3
 returns-3 c =
     let args = c .before .before .before .before .before .before .args in
     let wide = c .before .before .wide in
     let f = first (c .before .before) in
     found-cut (now (args .input)) ((wide .result) / 64) (f .1) (f .0) 1 (omega arith) (c .if3 .taken)
-
-mul-two : tie.Need-mul-two
-mul-two c = search needs
-
-shared-slice-read-wide-2 : tie.Need-shared-slice-read-wide-2
-shared-slice-read-wide-2 c = search needs
-
-wide-requires-2 : tie.Need-wide-requires-2
-wide-requires-2 c κs = search needs
-
-add-two : tie.Need-add-two
-add-two c = search needs
-
-array-read-whole-2 : tie.Need-array-read-whole-2
-array-read-whole-2 c = search needs
-
-whole-requires-2 : tie.Need-whole-requires-2
-whole-requires-2 c κs = search needs
 
 returns-4 : tie.Need-returns-4
 returns-4 c =
@@ -98,45 +62,12 @@ returns-4 c =
     let f = first (c .before .before .before .before .before .before) in
     rw (c .whole2 .ensures) (found s 1 (f .1 ∙ (if4 .taken)) (lit< tt) (if3 .left) _ (omega (arith, number-two s (if3 .left), wide .ensures, wide2 .ensures)))
 
-array-read-if5 : tie.Need-array-read-if5
-array-read-if5 c = search needs
-
 returns-5 : tie.Need-returns-5
 returns-5 c =
     let args = c .before .before .before .before .before .before .before .before .before .before .args in
     let wide = c .before .before .before .before .before .before .wide in
     let f = first (c .before .before .before .before .before .before) in
     found-cut (now (args .input)) ((wide .result) / 64) (f .1) (f .0) 2 (omega arith) (c .if5 .taken)
-
-mul-four : tie.Need-mul-four
-mul-four c = search needs
-
-shared-slice-read-wide-3 : tie.Need-shared-slice-read-wide-3
-shared-slice-read-wide-3 c = search needs
-
-wide-requires-3 : tie.Need-wide-requires-3
-wide-requires-3 c κs = search needs
-
-add-four : tie.Need-add-four
-add-four c = search needs
-
-mul-four-2 : tie.Need-mul-four-2
-mul-four-2 c = search needs
-
-shared-slice-read-wide-4 : tie.Need-shared-slice-read-wide-4
-shared-slice-read-wide-4 c = search needs
-
-wide-requires-4 : tie.Need-wide-requires-4
-wide-requires-4 c κs = search needs
-
-add-four-2 : tie.Need-add-four-2
-add-four-2 c = search needs
-
-array-read-whole-3 : tie.Need-array-read-whole-3
-array-read-whole-3 c = search needs
-
-whole-requires-3 : tie.Need-whole-requires-3
-whole-requires-3 c κs = search needs
 
 returns-6 : tie.Need-returns-6
 returns-6 c =
@@ -147,30 +78,12 @@ returns-6 c =
     let f = first (c .before .before .before .before .before .before .before .before .before .before .before .before) in
     rw (c .whole3 .ensures) (found s 2 (f .1 ∙ (if6 .taken)) (lit< tt) (if5 .left) _ (low-bytes (c .before .before)))
 
-array-read-if7 : tie.Need-array-read-if7
-array-read-if7 c = search needs
-
 returns-7 : tie.Need-returns-7
 returns-7 c =
     let args = c .before .before .before .before .before .before .before .before .before .before .before .before .before .before .before .before .args in
     let wide = c .before .before .before .before .before .before .before .before .before .before .before .before .wide in
     let f = first (c .before .before .before .before .before .before .before .before .before .before .before .before) in
     found-cut (now (args .input)) ((wide .result) / 64) (f .1) (f .0) 3 (omega arith) (c .if7 .taken)
-
-mul-whole : tie.Need-mul-whole
-mul-whole c = search needs
-
-be32-requires : tie.Need-be32-requires
-be32-requires c κs = search needs
-
-add-whole : tie.Need-add-whole
-add-whole c = search needs
-
-array-read-whole-4 : tie.Need-array-read-whole-4
-array-read-whole-4 c = search needs
-
-whole-requires-4 : tie.Need-whole-requires-4
-whole-requires-4 c κs = search needs
 
 returns-8 : tie.Need-returns-8
 returns-8 c =
@@ -190,40 +103,40 @@ pub read-spec : {M : Type 1} → statement M
 read-spec =
     tie.close
     (tie.spec
-    array-read-if1
+    (λ c. search needs)
     returns
-    shared-slice-read-wide
-    wide-requires
-    array-read-whole
-    whole-requires
+    (λ c. search needs)
+    (λ c κs. search needs)
+    (λ c. search needs)
+    (λ c κs. search needs)
     returns-2
-    array-read-if3
+    (λ c. search needs)
     returns-3
-    mul-two
-    shared-slice-read-wide-2
-    wide-requires-2
-    add-two
-    array-read-whole-2
-    whole-requires-2
+    (λ c. search needs)
+    (λ c. search needs)
+    (λ c κs. search needs)
+    (λ c. search needs)
+    (λ c. search needs)
+    (λ c κs. search needs)
     returns-4
-    array-read-if5
+    (λ c. search needs)
     returns-5
-    mul-four
-    shared-slice-read-wide-3
-    wide-requires-3
-    add-four
-    mul-four-2
-    shared-slice-read-wide-4
-    wide-requires-4
-    add-four-2
-    array-read-whole-3
-    whole-requires-3
+    (λ c. search needs)
+    (λ c. search needs)
+    (λ c κs. search needs)
+    (λ c. search needs)
+    (λ c. search needs)
+    (λ c. search needs)
+    (λ c κs. search needs)
+    (λ c. search needs)
+    (λ c. search needs)
+    (λ c κs. search needs)
     returns-6
-    array-read-if7
+    (λ c. search needs)
     returns-7
-    mul-whole
-    be32-requires
-    add-whole
-    array-read-whole-4
-    whole-requires-4
+    (λ c. search needs)
+    (λ c κs. search needs)
+    (λ c. search needs)
+    (λ c. search needs)
+    (λ c κs. search needs)
     returns-8)

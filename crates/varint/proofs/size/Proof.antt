@@ -4,12 +4,6 @@ use borrow.Author.Needs.{needs}
 use Rattle.varint.proofs.size.Statement.{statement}
 use Rattle.varint.proofs.size.Tie as tie
 
-class-of-requires : tie.Need-class-of-requires
-class-of-requires c κs = search needs
-
-width-of-requires : tie.Need-width-of-requires
-width-of-requires c κs = search needs
-
 returns : tie.Need-returns
 returns c =
     let args = c .before .before .before .args in
@@ -21,4 +15,4 @@ returns-2 : tie.Need-returns-2
 returns-2 c = sized-large (c .before .before .args .value) (c .before .class-of .result) (c .before .class-of .ensures) (c .if1 .left)
 
 pub size-spec : {M : Type 1} → statement M
-size-spec = tie.close (tie.spec class-of-requires width-of-requires returns returns-2)
+size-spec = tie.close (tie.spec (λ c κs. search needs) (λ c κs. search needs) returns returns-2)

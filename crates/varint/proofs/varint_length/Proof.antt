@@ -4,15 +4,6 @@ use borrow.Author.Needs.{needs}
 use Rattle.varint.proofs.varint_length.Statement.{statement}
 use Rattle.varint.proofs.varint_length.Tie as tie
 
-size-requires : tie.Need-size-requires
-size-requires c κs = search needs
-
-enum-known-n : tie.Need-enum-known-n
-enum-known-n c = search needs
-
-enum-told : tie.Need-enum-told
-enum-told c = search needs
-
 returns : tie.Need-returns
 returns c =
     let args = c .before .before .before .before .args in
@@ -30,4 +21,4 @@ returns-2 c =
     absurd (never-unsized (args .value) (pre) _ (rw (enum-told .given .1) at (size .ensures)))
 
 pub varint-length-spec : {M : Type 1} → statement M
-varint-length-spec = tie.close (tie.spec size-requires enum-known-n enum-told returns returns-2)
+varint-length-spec = tie.close (tie.spec (λ c κs. search needs) (λ c. search needs) (λ c. search needs) returns returns-2)

@@ -5,26 +5,14 @@ use borrow.Author.Needs.{needs}
 use Rattle.varint.proofs.width_of.Statement.{statement}
 use Rattle.varint.proofs.width_of.Tie as tie
 
-array-read-result : tie.Need-array-read-result
-array-read-result c = search needs
-
 returns : tie.Need-returns
 returns c = rw (c .if1 .taken)
-
-array-read-result-2 : tie.Need-array-read-result-2
-array-read-result-2 c = search needs
 
 returns-2 : tie.Need-returns-2
 returns-2 c = rw (c .if2 .taken)
 
-array-read-result-3 : tie.Need-array-read-result-3
-array-read-result-3 c = search needs
-
 returns-3 : tie.Need-returns-3
 returns-3 c = rw (c .if3 .taken)
-
-array-read-result-4 : tie.Need-array-read-result-4
-array-read-result-4 c = search needs
 
 returns-4 : tie.Need-returns-4
 returns-4 c = let e : (c .before .before .before .args .class) ≡ 3 = omega arith in rw e
@@ -33,11 +21,11 @@ pub width-of-spec : {M : Type 1} → statement M
 width-of-spec =
     tie.close
     (tie.spec
-    array-read-result
+    (λ c. search needs)
     returns
-    array-read-result-2
+    (λ c. search needs)
     returns-2
-    array-read-result-3
+    (λ c. search needs)
     returns-3
-    array-read-result-4
+    (λ c. search needs)
     returns-4)

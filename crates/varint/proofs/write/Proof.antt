@@ -6,17 +6,11 @@ use borrow.Author.Needs.{needs}
 use Rattle.varint.proofs.write.Statement.{statement}
 use Rattle.varint.proofs.write.Tie as tie
 
-class-of-requires : tie.Need-class-of-requires
-class-of-requires c κs = search needs
-
 returns : tie.Need-returns
 returns c =
     let args = c .before .before .before .args in
     let class-of = c .before .class-of in
     written-large (args .value) (now (args .out)) (class-of .result) (class-of .ensures) (c .if1 .taken)
-
-width-of-requires : tie.Need-width-of-requires
-width-of-requires c κs = search needs
 
 returns-2 : tie.Need-returns-2
 returns-2 c =
@@ -36,9 +30,6 @@ put-form-requires c κs =
     let e = class-of .ensures in
     (if1 .left, rw (width-of .ensures) at (if2 .left), rw e (class-holds (args .value) (rw e at (if1 .left))))
 
-same-length : tie.Need-same-length
-same-length c = search needs
-
 returns-3 : tie.Need-returns-3
 returns-3 c =
     let width-of = c .before .before .before .before .before .width-of in
@@ -53,10 +44,10 @@ pub write-spec : {M : Type 1} → statement M
 write-spec =
     tie.close
     (tie.spec
-    class-of-requires
+    (λ c κs. search needs)
     returns
-    width-of-requires
+    (λ c κs. search needs)
     returns-2
     put-form-requires
-    same-length
+    (λ c. search needs)
     returns-3)

@@ -40,15 +40,6 @@ sub-w16 c = place-within (c .before .loop .inv .2)
 part-w16-start : tie.Need-part-w16-start Inv-loop μ-loop
 part-w16-start c = place-within (c .before .loop .inv .2)
 
-part-w16-end : tie.Need-part-w16-end Inv-loop μ-loop
-part-w16-end c = search needs
-
-mul-w16 : tie.Need-mul-w16 Inv-loop μ-loop
-mul-w16 c = search needs
-
-shared-slice-read-w16 : tie.Need-shared-slice-read-w16 Inv-loop μ-loop
-shared-slice-read-w16 c = search needs
-
 w16-requires : tie.Need-w16-requires Inv-loop μ-loop
 w16-requires c κs =
     let loop = c .before .before .before .loop in
@@ -57,12 +48,6 @@ w16-requires c κs =
 
 add-at : tie.Need-add-at Inv-loop μ-loop
 add-at c = omega (arith, c .before .before .before .before .before .before .loop .inv .1)
-
-add-i : tie.Need-add-i Inv-loop μ-loop
-add-i c = omega arith
-
-loop-less : tie.Need-loop-less Inv-loop μ-loop
-loop-less c = omega arith
 
 loop-again : tie.Need-loop-again Inv-loop μ-loop
 loop-again c =
@@ -88,13 +73,13 @@ put-words-spec =
     loop-holds
     sub-w16
     part-w16-start
-    part-w16-end
-    mul-w16
-    shared-slice-read-w16
+    (λ c. search needs)  -- part-w16-end
+    (λ c. search needs)  -- mul-w16
+    (λ c. search needs)  -- shared-slice-read-w16
     w16-requires
     add-at
-    add-i
-    loop-less
+    (λ c. omega arith)  -- add-i
+    (λ c. omega arith)  -- loop-less
     loop-again
     same-length
     returns)

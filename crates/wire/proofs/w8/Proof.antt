@@ -5,14 +5,13 @@ use borrow.Author.Needs.{needs}
 use Rattle.wire.proofs.w8.Statement.{statement}
 use Rattle.wire.proofs.w8.Tie as tie
 
-slice-write-out : tie.Need-slice-write-out
-slice-write-out c = search needs
-
-same-length : tie.Need-same-length
-same-length c = search needs
-
 returns : tie.Need-returns
 returns c = stores (c .args .v ∷ []) _ (c .pre)
 
 pub w8-spec : {M : Type 1} → statement M
-w8-spec = tie.close (tie.spec slice-write-out same-length returns)
+w8-spec =
+    tie.close
+    (tie.spec
+    (λ c. search needs)  -- slice-write-out
+    (λ c. search needs)  -- same-length
+    returns)

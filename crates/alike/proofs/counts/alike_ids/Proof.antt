@@ -21,27 +21,6 @@ abbrev μ-loop : tie.MeasureT-loop
 loop-holds : tie.Need-loop-holds Inv-loop μ-loop
 loop-holds c = (zero-le, sym (padded-none 64 0))
 
-mul-alike-id : tie.Need-mul-alike-id Inv-loop μ-loop
-mul-alike-id c = search needs
-
-element-copy-out-alike-id : tie.Need-element-copy-out-alike-id Inv-loop μ-loop
-element-copy-out-alike-id c = search needs
-
-alike-id-requires : tie.Need-alike-id-requires Inv-loop μ-loop
-alike-id-requires c κs = search needs
-
-mul-numbers : tie.Need-mul-numbers Inv-loop μ-loop
-mul-numbers c = search needs
-
-array-write-numbers : tie.Need-array-write-numbers Inv-loop μ-loop
-array-write-numbers c = search needs
-
-add-i : tie.Need-add-i Inv-loop μ-loop
-add-i c = search needs
-
-loop-less : tie.Need-loop-less Inv-loop μ-loop
-loop-less c = search needs
-
 loop-again : tie.Need-loop-again Inv-loop μ-loop
 loop-again c =
     let l = c .before .before .before .loop in
@@ -63,12 +42,12 @@ alike-ids-spec =
     Inv-loop
     μ-loop
     loop-holds
-    mul-alike-id
-    element-copy-out-alike-id
-    alike-id-requires
-    mul-numbers
-    array-write-numbers
-    add-i
-    loop-less
+    (λ c. search needs)  -- mul-alike-id
+    (λ c. search needs)  -- element-copy-out-alike-id
+    (λ c κs. search needs)  -- alike-id-requires
+    (λ c. search needs)  -- mul-numbers
+    (λ c. search needs)  -- array-write-numbers
+    (λ c. search needs)  -- add-i
+    (λ c. search needs)  -- loop-less
     loop-again
     returns)

@@ -17,24 +17,6 @@ abbrev μ-loop : tie.MeasureT-loop
 loop-holds : tie.Need-loop-holds Inv-loop μ-loop
 loop-holds c = (zero-le, refl)
 
-mul-times : tie.Need-mul-times Inv-loop μ-loop
-mul-times c = search needs
-
-shared-slice-read-times : tie.Need-shared-slice-read-times Inv-loop μ-loop
-shared-slice-read-times c = search needs
-
-times-requires : tie.Need-times-requires Inv-loop μ-loop
-times-requires c κs = search needs
-
-mul-times-2 : tie.Need-mul-times-2 Inv-loop μ-loop
-mul-times-2 c = search needs
-
-shared-slice-read-times-2 : tie.Need-shared-slice-read-times-2 Inv-loop μ-loop
-shared-slice-read-times-2 c = search needs
-
-times-requires-2 : tie.Need-times-requires-2 Inv-loop μ-loop
-times-requires-2 c κs = search needs
-
 returns : tie.Need-returns Inv-loop μ-loop
 returns c =
     let args = c .before .before .before .before .before .before .before .before .before .before .args in
@@ -42,12 +24,6 @@ returns c =
     let a-count = c .before .before .before .times .ensures in
     let b-count = c .before .times2 .ensures in
     sym (l .inv .1 ∙ often-not (args .items .now) (l .i) (c .before .before .before .before .before .loop-test .taken) (args .a .now) (args .b .now) (λ e. c .if1 .taken (a-count ∙ e ∙ sym b-count)))
-
-add-i : tie.Need-add-i Inv-loop μ-loop
-add-i c = search needs
-
-loop-less : tie.Need-loop-less Inv-loop μ-loop
-loop-less c = search needs
 
 loop-again : tie.Need-loop-again Inv-loop μ-loop
 loop-again c =
@@ -72,14 +48,14 @@ equally-often-spec =
     Inv-loop
     μ-loop
     loop-holds
-    mul-times
-    shared-slice-read-times
-    times-requires
-    mul-times-2
-    shared-slice-read-times-2
-    times-requires-2
+    (λ c. search needs)  -- mul-times
+    (λ c. search needs)  -- shared-slice-read-times
+    (λ c κs. search needs)  -- times-requires
+    (λ c. search needs)  -- mul-times-2
+    (λ c. search needs)  -- shared-slice-read-times-2
+    (λ c κs. search needs)  -- times-requires-2
     returns
-    add-i
-    loop-less
+    (λ c. search needs)  -- add-i
+    (λ c. search needs)  -- loop-less
     loop-again
     returns-2)

@@ -10,33 +10,6 @@ use borrow.Author.Needs.{needs}
 use Rattle.alike.proofs.counts.same_but_for_order.Statement.{statement}
 use Rattle.alike.proofs.counts.same_but_for_order.Tie as tie
 
-type-numbers-requires : tie.Need-type-numbers-requires
-type-numbers-requires c κs = search needs
-
-type-numbers-requires-2 : tie.Need-type-numbers-requires-2
-type-numbers-requires-2 c κs = search needs
-
-sub-same-counts : tie.Need-sub-same-counts
-sub-same-counts c = search needs
-
-part-same-counts-start : tie.Need-part-same-counts-start
-part-same-counts-start c = search needs
-
-part-same-counts-end : tie.Need-part-same-counts-end
-part-same-counts-end c = search needs
-
-sub-same-counts-2 : tie.Need-sub-same-counts-2
-sub-same-counts-2 c = search needs
-
-part-same-counts-start-2 : tie.Need-part-same-counts-start-2
-part-same-counts-start-2 c = search needs
-
-part-same-counts-end-2 : tie.Need-part-same-counts-end-2
-part-same-counts-end-2 c = search needs
-
-same-counts-requires : tie.Need-same-counts-requires
-same-counts-requires c κs = search needs
-
 returns : tie.Need-returns
 unfolding sameCountsOf
 returns c =
@@ -48,33 +21,6 @@ returns c =
     let x-types = part-is typeNumber (x .extensions) (pre .0 .types) (x-numbers .result) (x-numbers .ensures) in
     let y-types = part-is typeNumber (y .extensions) (pre .1 .types) (y-numbers .result) (y-numbers .ensures) in
     fails _ _ (c .before .same-counts .ensures ∙ ap₂ sameCounts x-types y-types) (c .if1 .taken)
-
-alike-ids-requires : tie.Need-alike-ids-requires
-alike-ids-requires c κs = search needs
-
-alike-ids-requires-2 : tie.Need-alike-ids-requires-2
-alike-ids-requires-2 c κs = search needs
-
-sub-same-counts-3 : tie.Need-sub-same-counts-3
-sub-same-counts-3 c = search needs
-
-part-same-counts-start-3 : tie.Need-part-same-counts-start-3
-part-same-counts-start-3 c = search needs
-
-part-same-counts-end-3 : tie.Need-part-same-counts-end-3
-part-same-counts-end-3 c = search needs
-
-sub-same-counts-4 : tie.Need-sub-same-counts-4
-sub-same-counts-4 c = search needs
-
-part-same-counts-start-4 : tie.Need-part-same-counts-start-4
-part-same-counts-start-4 c = search needs
-
-part-same-counts-end-4 : tie.Need-part-same-counts-end-4
-part-same-counts-end-4 c = search needs
-
-same-counts-requires-2 : tie.Need-same-counts-requires-2
-same-counts-requires-2 c κs = search needs
 
 returns-2 : tie.Need-returns-2
 unfolding sameCountsOf
@@ -96,23 +42,23 @@ pub same-but-for-order-spec : {M : Type 1} → statement M
 same-but-for-order-spec =
     tie.close
     (tie.spec
-    type-numbers-requires
-    type-numbers-requires-2
-    sub-same-counts
-    part-same-counts-start
-    part-same-counts-end
-    sub-same-counts-2
-    part-same-counts-start-2
-    part-same-counts-end-2
-    same-counts-requires
+    (λ c κs. search needs)  -- type-numbers-requires
+    (λ c κs. search needs)  -- type-numbers-requires-2
+    (λ c. search needs)  -- sub-same-counts
+    (λ c. search needs)  -- part-same-counts-start
+    (λ c. search needs)  -- part-same-counts-end
+    (λ c. search needs)  -- sub-same-counts-2
+    (λ c. search needs)  -- part-same-counts-start-2
+    (λ c. search needs)  -- part-same-counts-end-2
+    (λ c κs. search needs)  -- same-counts-requires
     returns
-    alike-ids-requires
-    alike-ids-requires-2
-    sub-same-counts-3
-    part-same-counts-start-3
-    part-same-counts-end-3
-    sub-same-counts-4
-    part-same-counts-start-4
-    part-same-counts-end-4
-    same-counts-requires-2
+    (λ c κs. search needs)  -- alike-ids-requires
+    (λ c κs. search needs)  -- alike-ids-requires-2
+    (λ c. search needs)  -- sub-same-counts-3
+    (λ c. search needs)  -- part-same-counts-start-3
+    (λ c. search needs)  -- part-same-counts-end-3
+    (λ c. search needs)  -- sub-same-counts-4
+    (λ c. search needs)  -- part-same-counts-start-4
+    (λ c. search needs)  -- part-same-counts-end-4
+    (λ c κs. search needs)  -- same-counts-requires-2
     returns-2)

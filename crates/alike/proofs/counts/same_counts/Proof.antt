@@ -10,13 +10,15 @@ returns c =
     let args = c .before .before .before .args in
     lengths-differ (args .a .now) (args .b .now) (c .if1 .taken)
 
-equally-often-requires : tie.Need-equally-often-requires
-equally-often-requires c κs = search needs
-
 returns-2 : tie.Need-returns-2
 returns-2 c =
     let args = c .before .before .before .before .args in
     c .equally-often .ensures ∙ one-pass (args .a .now) (args .b .now) (c .before .if1 .left)
 
 pub same-counts-spec : {M : Type 1} → statement M
-same-counts-spec = tie.close (tie.spec returns equally-often-requires returns-2)
+same-counts-spec =
+    tie.close
+    (tie.spec
+    returns
+    (λ c κs. search needs)  -- equally-often-requires
+    returns-2)

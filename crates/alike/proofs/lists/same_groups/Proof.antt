@@ -28,30 +28,12 @@ returns c =
 loop-holds : tie.Need-loop-holds Inv-loop μ-loop
 loop-holds c = (zero-le, refl)
 
-mul-g : tie.Need-mul-g Inv-loop μ-loop
-mul-g c = search needs
-
-array-copy-out-g : tie.Need-array-copy-out-g Inv-loop μ-loop
-array-copy-out-g c = search needs
-
-mul-h : tie.Need-mul-h Inv-loop μ-loop
-mul-h c = search needs
-
-array-copy-out-h : tie.Need-array-copy-out-h Inv-loop μ-loop
-array-copy-out-h c = search needs
-
 returns-2 : tie.Need-returns-2 Inv-loop μ-loop
 returns-2 c =
     let args = c .before .before .before .before .before .before .before .before .args in
     let pre = c .before .before .before .before .before .before .before .before .pre in
     place-differs groupNumber groupNumber (group 0) (args .t1) (args .t3) (args .n) (args .m) (pre .0) (pre .1) numbers-tests
     (c .before .before .before .before .before .before .loop .i) (c .before .before .before .before .before .loop-test .taken) (c .if2 .taken)
-
-add-i : tie.Need-add-i Inv-loop μ-loop
-add-i c = search needs
-
-loop-less : tie.Need-loop-less Inv-loop μ-loop
-loop-less c = search needs
 
 loop-again : tie.Need-loop-again Inv-loop μ-loop
 loop-again c =
@@ -79,12 +61,12 @@ same-groups-spec =
     μ-loop
     returns
     loop-holds
-    mul-g
-    array-copy-out-g
-    mul-h
-    array-copy-out-h
+    (λ c. search needs)  -- mul-g
+    (λ c. search needs)  -- array-copy-out-g
+    (λ c. search needs)  -- mul-h
+    (λ c. search needs)  -- array-copy-out-h
     returns-2
-    add-i
-    loop-less
+    (λ c. search needs)  -- add-i
+    (λ c. search needs)  -- loop-less
     loop-again
     returns-3)

@@ -5,25 +5,16 @@ use borrow.Author.Needs.{needs}
 use Rattle.alike.proofs.lists.same_lists.Statement.{statement}
 use Rattle.alike.proofs.lists.same_lists.Tie as tie
 
-same-words-requires : tie.Need-same-words-requires
-same-words-requires c κs = search needs
-
 returns : tie.Need-returns
 unfolding sameListsOf
 returns c =
     fails _ _ (c .before .same-words .ensures) (c .if1 .taken)
-
-same-groups-requires : tie.Need-same-groups-requires
-same-groups-requires c κs = search needs
 
 returns-2 : tie.Need-returns-2
 unfolding sameListsOf
 returns-2 c =
     passes _ _ (c .before .before .before .before .before .same-words .ensures) (c .before .before .before .before .if1 .left)
     (fails _ _ (c .before .same-groups .ensures) (c .if2 .taken))
-
-same-groups-requires-2 : tie.Need-same-groups-requires-2
-same-groups-requires-2 c κs = search needs
 
 returns-3 : tie.Need-returns-3
 unfolding sameListsOf
@@ -32,9 +23,6 @@ returns-3 c =
     (passes _ _ (c .before .before .before .before .before .same-groups .ensures) (c .before .before .before .before .if2 .left)
     (fails _ _ (c .before .same-groups2 .ensures) (c .if3 .taken)))
 
-same-words-requires-2 : tie.Need-same-words-requires-2
-same-words-requires-2 c κs = search needs
-
 returns-4 : tie.Need-returns-4
 unfolding sameListsOf
 returns-4 c =
@@ -42,9 +30,6 @@ returns-4 c =
     (passes _ _ (c .before .before .before .before .before .before .before .before .before .before .before .same-groups .ensures) (c .before .before .before .before .before .before .before .before .before .before .if2 .left)
     (passes _ _ (c .before .before .before .before .before .before .before .same-groups2 .ensures) (c .before .before .before .before .before .before .if3 .left)
     (fails _ _ (c .before .same-words2 .ensures) (c .if4 .taken))))
-
-same-words-requires-3 : tie.Need-same-words-requires-3
-same-words-requires-3 c κs = search needs
 
 returns-5 : tie.Need-returns-5
 unfolding sameListsOf
@@ -59,13 +44,13 @@ pub same-lists-spec : {M : Type 1} → statement M
 same-lists-spec =
     tie.close
     (tie.spec
-    same-words-requires
+    (λ c κs. search needs)  -- same-words-requires
     returns
-    same-groups-requires
+    (λ c κs. search needs)  -- same-groups-requires
     returns-2
-    same-groups-requires-2
+    (λ c κs. search needs)  -- same-groups-requires-2
     returns-3
-    same-words-requires-2
+    (λ c κs. search needs)  -- same-words-requires-2
     returns-4
-    same-words-requires-3
+    (λ c κs. search needs)  -- same-words-requires-3
     returns-5)

@@ -28,30 +28,12 @@ returns c =
 loop-holds : tie.Need-loop-holds Inv-loop μ-loop
 loop-holds c = (zero-le, refl)
 
-mul-if2 : tie.Need-mul-if2 Inv-loop μ-loop
-mul-if2 c = search needs
-
-element-copy-out-if2 : tie.Need-element-copy-out-if2 Inv-loop μ-loop
-element-copy-out-if2 c = search needs
-
-mul-if2-2 : tie.Need-mul-if2-2 Inv-loop μ-loop
-mul-if2-2 c = search needs
-
-element-copy-out-if2-2 : tie.Need-element-copy-out-if2-2 Inv-loop μ-loop
-element-copy-out-if2-2 c = search needs
-
 returns-2 : tie.Need-returns-2 Inv-loop μ-loop
 returns-2 c =
     let args = c .before .before .before .before .before .before .args in
     let pre = c .before .before .before .before .before .before .pre in
     rw (map-id, map-id) at (place-differs (λ x. x) (λ x. x) 0 (args .a .now) (args .b .now) (args .n) (args .m) (pre .0) (pre .1) numbers-tests
     (c .before .before .before .before .loop .i) (c .before .before .before .loop-test .taken) (c .if2 .taken))
-
-add-i : tie.Need-add-i Inv-loop μ-loop
-add-i c = search needs
-
-loop-less : tie.Need-loop-less Inv-loop μ-loop
-loop-less c = search needs
 
 loop-again : tie.Need-loop-again Inv-loop μ-loop
 loop-again c =
@@ -79,12 +61,12 @@ same-words-spec =
     μ-loop
     returns
     loop-holds
-    mul-if2
-    element-copy-out-if2
-    mul-if2-2
-    element-copy-out-if2-2
+    (λ c. search needs)  -- mul-if2
+    (λ c. search needs)  -- element-copy-out-if2
+    (λ c. search needs)  -- mul-if2-2
+    (λ c. search needs)  -- element-copy-out-if2-2
     returns-2
-    add-i
-    loop-less
+    (λ c. search needs)  -- add-i
+    (λ c. search needs)  -- loop-less
     loop-again
     returns-3)

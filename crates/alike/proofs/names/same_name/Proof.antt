@@ -8,32 +8,14 @@ use borrow.Author.Needs.{needs}
 use Rattle.alike.proofs.names.same_name.Statement.{statement}
 use Rattle.alike.proofs.names.same_name.Tie as tie
 
-enum-known-x : tie.Need-enum-known-x
-enum-known-x c = search needs
-
-enum-known-y : tie.Need-enum-known-y
-enum-known-y c = search needs
-
 part-requires : tie.Need-part-requires
 part-requires c κs = subst (λ (n : Sni). SniInside (c .before .before .before .before .before .before .before .before .args .a .now) n) (c .before .before .before .before .x .given .1) (c .before .before .before .before .before .before .before .before .pre .0)
 
 part-requires-2 : tie.Need-part-requires-2
 part-requires-2 c κs = subst (λ (n : Sni). SniInside (c .before .before .before .before .before .before .before .before .before .args .b .now) n) (c .before .before .y .given .1) (c .before .before .before .before .before .before .before .before .before .pre .1)
 
-same-requires : tie.Need-same-requires
-same-requires c κs = search needs
-
 enum-told : tie.Need-enum-told
 enum-told c = search needs
-
-enum-told-2 : tie.Need-enum-told-2
-enum-told-2 c = search needs
-
-enum-told-3 : tie.Need-enum-told-3
-enum-told-3 c = search needs
-
-enum-told-4 : tie.Need-enum-told-4
-enum-told-4 c = search needs
 
 returns : tie.Need-returns
 unfolding sameName
@@ -56,15 +38,15 @@ pub same-name-spec : {M : Type 1} → statement M
 same-name-spec =
     tie.close
     (tie.spec
-    enum-known-x
-    enum-known-y
+    (λ c. search needs)  -- enum-known-x
+    (λ c. search needs)  -- enum-known-y
     part-requires
     part-requires-2
-    same-requires
+    (λ c κs. search needs)  -- same-requires
     enum-told
-    enum-told-2
-    enum-told-3
-    enum-told-4
+    (λ c. search needs)  -- enum-told-2
+    (λ c. search needs)  -- enum-told-3
+    (λ c. search needs)  -- enum-told-4
     returns
     returns-2
     returns-3

@@ -30,26 +30,11 @@ returns c =
 loop-holds : tie.Need-loop-holds Inv-loop μ-loop
 loop-holds c = (zero-le, refl)
 
-mul-s : tie.Need-mul-s Inv-loop μ-loop
-mul-s c = search needs
-
-array-copy-out-s : tie.Need-array-copy-out-s Inv-loop μ-loop
-array-copy-out-s c = search needs
-
-mul-t : tie.Need-mul-t Inv-loop μ-loop
-mul-t c = search needs
-
-array-copy-out-t : tie.Need-array-copy-out-t Inv-loop μ-loop
-array-copy-out-t c = search needs
-
 part-requires : tie.Need-part-requires Inv-loop μ-loop
 part-requires c κs = (c .before .before .before .before .before .before .before .pre .1) (c .before .before .before .loop .i) (c .before .before .loop-test .taken)
 
 part-requires-2 : tie.Need-part-requires-2 Inv-loop μ-loop
 part-requires-2 c κs = (c .before .before .before .before .before .before .before .before .pre .3) (c .before .before .before .before .loop .i) (omega (arith, c .before .before .before .loop-test .taken, c .before .before .before .before .before .if1 .left))
-
-same-requires : tie.Need-same-requires Inv-loop μ-loop
-same-requires c κs = search needs
 
 returns-2 : tie.Need-returns-2 Inv-loop μ-loop
 returns-2 c =
@@ -59,12 +44,6 @@ returns-2 c =
     place-differs (partOf (args .a .now)) (partOf (args .b .now)) (span 0 0) (args .t2) (args .t5) (args .n) (args .m) (pre .0) (pre .2) protocols-tests
     (c .before .before .before .before .before .before .before .loop .i) (c .before .before .before .before .before .before .loop-test .taken)
     (parts-differ (c .before .before .before .part .ensures) (c .before .before .part2 .ensures) (same .ensures) (not-true (same .result) (c .if2 .taken)))
-
-add-i : tie.Need-add-i Inv-loop μ-loop
-add-i c = search needs
-
-loop-less : tie.Need-loop-less Inv-loop μ-loop
-loop-less c = search needs
 
 loop-again : tie.Need-loop-again Inv-loop μ-loop
 loop-again c =
@@ -94,15 +73,15 @@ same-protocols-spec =
     μ-loop
     returns
     loop-holds
-    mul-s
-    array-copy-out-s
-    mul-t
-    array-copy-out-t
+    (λ c. search needs)  -- mul-s
+    (λ c. search needs)  -- array-copy-out-s
+    (λ c. search needs)  -- mul-t
+    (λ c. search needs)  -- array-copy-out-t
     part-requires
     part-requires-2
-    same-requires
+    (λ c κs. search needs)  -- same-requires
     returns-2
-    add-i
-    loop-less
+    (λ c. search needs)  -- add-i
+    (λ c. search needs)  -- loop-less
     loop-again
     returns-3)

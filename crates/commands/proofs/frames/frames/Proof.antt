@@ -4,110 +4,38 @@ use borrow.Author.Needs.{needs}
 use Rattle.commands.proofs.frames.frames.Statement.{statement}
 use Rattle.commands.proofs.frames.frames.Tie as tie
 
-has-operands-requires : tie.Need-has-operands-requires
-has-operands-requires c κs = search needs
-
-returns : tie.Need-returns
-returns c = search needs
-
-word-at-requires : tie.Need-word-at-requires
-word-at-requires c κs = search needs
-
-read-number-requires : tie.Need-read-number-requires
-read-number-requires c κs = search needs
-
-enum-known-c : tie.Need-enum-known-c
-enum-known-c c = search needs
-
-enum-told : tie.Need-enum-told
-enum-told c = search needs
-
-returns-2 : tie.Need-returns-2
-returns-2 c = search needs
-
-room-requires : tie.Need-room-requires
-room-requires c κs = search needs
-
-word-at-requires-2 : tie.Need-word-at-requires-2
-word-at-requires-2 c κs = search needs
-
-sub-read-operand : tie.Need-sub-read-operand
-sub-read-operand c = search needs
-
-part-read-operand-start : tie.Need-part-read-operand-start
-part-read-operand-start c = search needs
-
-part-read-operand-end : tie.Need-part-read-operand-end
-part-read-operand-end c = search needs
-
-slice-aggregate-read-operand : tie.Need-slice-aggregate-read-operand
-slice-aggregate-read-operand c = search needs
-
-read-operand-requires : tie.Need-read-operand-requires
-read-operand-requires c κs = search needs
-
-enum-known-n : tie.Need-enum-known-n
-enum-known-n c = search needs
-
-sub-frames-of : tie.Need-sub-frames-of
-sub-frames-of c = search needs
-
-part-frames-of-start : tie.Need-part-frames-of-start
-part-frames-of-start c = search needs
-
 part-frames-of-end : tie.Need-part-frames-of-end
 part-frames-of-end c =
     let n = c .before .before .n in
     let read-operand = c .before .before .before .before .before .read-operand in
     omega (arith, rw (n .given .1) at (read-operand .ensures))
 
-frames-of-requires : tie.Need-frames-of-requires
-frames-of-requires c κs = search needs
-
-enum-known-fault : tie.Need-enum-known-fault
-enum-known-fault c = search needs
-
-same-length : tie.Need-same-length
-same-length c = search needs
-
-same-length-2 : tie.Need-same-length-2
-same-length-2 c = search needs
-
-returns-3 : tie.Need-returns-3
-returns-3 c = search needs
-
-same-length-3 : tie.Need-same-length-3
-same-length-3 c = search needs
-
-returns-4 : tie.Need-returns-4
-returns-4 c = search needs
-
 pub frames-spec : {M : Type 1} → statement M
 frames-spec =
     tie.close
     (tie.spec
-    has-operands-requires
-    returns
-    word-at-requires
-    read-number-requires
-    enum-known-c
-    enum-told
-    returns-2
-    room-requires
-    word-at-requires-2
-    sub-read-operand
-    part-read-operand-start
-    part-read-operand-end
-    slice-aggregate-read-operand
-    read-operand-requires
-    enum-known-n
-    sub-frames-of
-    part-frames-of-start
+    (λ c κs. search needs)  -- has-operands-requires
+    (λ c. search needs)  -- returns
+    (λ c κs. search needs)  -- word-at-requires
+    (λ c κs. search needs)  -- read-number-requires
+    (λ c. search needs)  -- enum-known-c
+    (λ c. search needs)  -- enum-told
+    (λ c. search needs)  -- returns-2
+    (λ c κs. search needs)  -- room-requires
+    (λ c κs. search needs)  -- word-at-requires-2
+    (λ c. search needs)  -- sub-read-operand
+    (λ c. search needs)  -- part-read-operand-start
+    (λ c. search needs)  -- part-read-operand-end
+    (λ c. search needs)  -- slice-aggregate-read-operand
+    (λ c κs. search needs)  -- read-operand-requires
+    (λ c. search needs)  -- enum-known-n
+    (λ c. search needs)  -- sub-frames-of
+    (λ c. search needs)  -- part-frames-of-start
     part-frames-of-end
-    frames-of-requires
-    enum-known-fault
-    same-length
-    same-length-2
-    returns-3
-    same-length-3
-    returns-4)
+    (λ c κs. search needs)  -- frames-of-requires
+    (λ c. search needs)  -- enum-known-fault
+    (λ c. search needs)  -- same-length
+    (λ c. search needs)  -- same-length-2
+    (λ c. search needs)  -- returns-3
+    (λ c. search needs)  -- same-length-3
+    (λ c. search needs))  -- returns-4

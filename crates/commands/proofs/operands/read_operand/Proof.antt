@@ -29,30 +29,6 @@ within c =
 loop-holds : tie.Need-loop-holds Inv-loop μ-loop
 loop-holds c = (omega arith, omega arith, refl)
 
-piece-end-requires : tie.Need-piece-end-requires Inv-loop μ-loop
-piece-end-requires c κs = search needs
-
-sub-read-one : tie.Need-sub-read-one Inv-loop μ-loop
-sub-read-one c = search needs
-
-part-read-one-start : tie.Need-part-read-one-start Inv-loop μ-loop
-part-read-one-start c = search needs
-
-part-read-one-end : tie.Need-part-read-one-end Inv-loop μ-loop
-part-read-one-end c = search needs
-
-sub-read-one-2 : tie.Need-sub-read-one-2 Inv-loop μ-loop
-sub-read-one-2 c = search needs
-
-part-read-one-start-2 : tie.Need-part-read-one-start-2 Inv-loop μ-loop
-part-read-one-start-2 c = search needs
-
-part-read-one-end-2 : tie.Need-part-read-one-end-2 Inv-loop μ-loop
-part-read-one-end-2 c = search needs
-
-read-one-requires : tie.Need-read-one-requires Inv-loop μ-loop
-read-one-requires c κs = search needs
-
 enum-known-k : tie.Need-enum-known-k Inv-loop μ-loop
 enum-known-k c = omega (arith, c .match .keys1)
 
@@ -62,32 +38,8 @@ add-n c = omega (arith, within c)
 enum-known-fault : tie.Need-enum-known-fault Inv-loop μ-loop
 enum-known-fault c = omega (arith, c .match .keys2)
 
-same-length : tie.Need-same-length Inv-loop μ-loop
-same-length c = search needs
-
-returns : tie.Need-returns Inv-loop μ-loop
-returns c = search needs
-
-same-length-2 : tie.Need-same-length-2 Inv-loop μ-loop
-same-length-2 c = search needs
-
 returns-2 : tie.Need-returns-2 Inv-loop μ-loop
 returns-2 c = omega (arith, within (c .before))
-
-shared-slice-read-if2 : tie.Need-shared-slice-read-if2 Inv-loop μ-loop
-shared-slice-read-if2 c = search needs
-
-same-length-3 : tie.Need-same-length-3 Inv-loop μ-loop
-same-length-3 c = search needs
-
-returns-3 : tie.Need-returns-3 Inv-loop μ-loop
-returns-3 c = search needs
-
-add-at : tie.Need-add-at Inv-loop μ-loop
-add-at c = search needs
-
-loop-less : tie.Need-loop-less Inv-loop μ-loop
-loop-less c = search needs
 
 loop-again : tie.Need-loop-again Inv-loop μ-loop
 loop-again c = (omega arith, omega (arith, within (c .before .before .before)), search needs)
@@ -99,24 +51,24 @@ read-operand-spec =
     Inv-loop
     μ-loop
     loop-holds
-    piece-end-requires
-    sub-read-one
-    part-read-one-start
-    part-read-one-end
-    sub-read-one-2
-    part-read-one-start-2
-    part-read-one-end-2
-    read-one-requires
+    (λ c κs. search needs)  -- piece-end-requires
+    (λ c. search needs)  -- sub-read-one
+    (λ c. search needs)  -- part-read-one-start
+    (λ c. search needs)  -- part-read-one-end
+    (λ c. search needs)  -- sub-read-one-2
+    (λ c. search needs)  -- part-read-one-start-2
+    (λ c. search needs)  -- part-read-one-end-2
+    (λ c κs. search needs)  -- read-one-requires
     enum-known-k
     add-n
     enum-known-fault
-    same-length
-    returns
-    same-length-2
+    (λ c. search needs)  -- same-length
+    (λ c. search needs)  -- returns
+    (λ c. search needs)  -- same-length-2
     returns-2
-    shared-slice-read-if2
-    same-length-3
-    returns-3
-    add-at
-    loop-less
+    (λ c. search needs)  -- shared-slice-read-if2
+    (λ c. search needs)  -- same-length-3
+    (λ c. search needs)  -- returns-3
+    (λ c. search needs)  -- add-at
+    (λ c. search needs)  -- loop-less
     loop-again)

@@ -10,47 +10,8 @@ use borrow.Author.Needs.{needs}
 use Rattle.crustdelta_c.proofs.layout.put_counts.Statement.{statement}
 use Rattle.crustdelta_c.proofs.layout.put_counts.Tie as tie
 
-put-numbers-requires : tie.Need-put-numbers-requires
-put-numbers-requires c κs = search needs
-
-enum-known-name : tie.Need-enum-known-name
-enum-known-name c = search needs
-
-sub-put-numbers : tie.Need-sub-put-numbers
-sub-put-numbers c = search needs
-
-part-put-numbers-start : tie.Need-part-put-numbers-start
-part-put-numbers-start c = search needs
-
-part-put-numbers-end : tie.Need-part-put-numbers-end
-part-put-numbers-end c = search needs
-
-slice-aggregate-put-numbers : tie.Need-slice-aggregate-put-numbers
-slice-aggregate-put-numbers c = search needs
-
-put-numbers-requires-2 : tie.Need-put-numbers-requires-2
-put-numbers-requires-2 c κs = search needs
-
 enum-told : tie.Need-enum-told
 enum-told c = search needs
-
-sub-put-numbers-2 : tie.Need-sub-put-numbers-2
-sub-put-numbers-2 c = search needs
-
-part-put-numbers-start-2 : tie.Need-part-put-numbers-start-2
-part-put-numbers-start-2 c = search needs
-
-part-put-numbers-end-2 : tie.Need-part-put-numbers-end-2
-part-put-numbers-end-2 c = search needs
-
-slice-aggregate-put-numbers-2 : tie.Need-slice-aggregate-put-numbers-2
-slice-aggregate-put-numbers-2 c = search needs
-
-put-numbers-requires-3 : tie.Need-put-numbers-requires-3
-put-numbers-requires-3 c κs = search needs
-
-same-length : tie.Need-same-length
-same-length c = search needs
 
 returns : tie.Need-returns
 unfolding nameNumbers
@@ -63,9 +24,6 @@ returns c =
     let counts = args .counts .now in
     let e = sym (littles-append 2 counts _) ∙ ap (λ (n : Sni). littles 2 (counts ++ nameNumbers n)) (sym (name .given .1)) in
     put-as e (joined (filled (length-littles 2 counts ∙ ap (λ (n : ℕ). 2 * n) (pre .1)) (put-numbers .ensures)) (filled refl (c .before .before .put-numbers2 .ensures))) .output
-
-same-length-2 : tie.Need-same-length-2
-same-length-2 c = search needs
 
 returns-2 : tie.Need-returns-2
 unfolding nameNumbers
@@ -81,20 +39,20 @@ pub put-counts-spec : {M : Type 1} → statement M
 put-counts-spec =
     tie.close
     (tie.spec
-    put-numbers-requires
-    enum-known-name
-    sub-put-numbers
-    part-put-numbers-start
-    part-put-numbers-end
-    slice-aggregate-put-numbers
-    put-numbers-requires-2
+    (λ c κs. search needs)  -- put-numbers-requires
+    (λ c. search needs)  -- enum-known-name
+    (λ c. search needs)  -- sub-put-numbers
+    (λ c. search needs)  -- part-put-numbers-start
+    (λ c. search needs)  -- part-put-numbers-end
+    (λ c. search needs)  -- slice-aggregate-put-numbers
+    (λ c κs. search needs)  -- put-numbers-requires-2
     enum-told
-    sub-put-numbers-2
-    part-put-numbers-start-2
-    part-put-numbers-end-2
-    slice-aggregate-put-numbers-2
-    put-numbers-requires-3
-    same-length
+    (λ c. search needs)  -- sub-put-numbers-2
+    (λ c. search needs)  -- part-put-numbers-start-2
+    (λ c. search needs)  -- part-put-numbers-end-2
+    (λ c. search needs)  -- slice-aggregate-put-numbers-2
+    (λ c κs. search needs)  -- put-numbers-requires-3
+    (λ c. search needs)  -- same-length
     returns
-    same-length-2
+    (λ c. search needs)  -- same-length-2
     returns-2)

@@ -26,15 +26,6 @@ sub-put-id c = place-within (c .before .loop .inv .2)
 part-put-id-start : tie.Need-part-put-id-start Inv-loop μ-loop
 part-put-id-start c = place-within (c .before .loop .inv .2)
 
-part-put-id-end : tie.Need-part-put-id-end Inv-loop μ-loop
-part-put-id-end c = search needs
-
-mul-put-id : tie.Need-mul-put-id Inv-loop μ-loop
-mul-put-id c = search needs
-
-element-copy-out-put-id : tie.Need-element-copy-out-put-id Inv-loop μ-loop
-element-copy-out-put-id c = search needs
-
 put-id-requires : tie.Need-put-id-requires Inv-loop μ-loop
 put-id-requires c κs =
     let loop = c .before .before .before .loop in
@@ -44,12 +35,6 @@ put-id-requires c κs =
 
 add-at : tie.Need-add-at Inv-loop μ-loop
 add-at c = omega (arith, c .before .before .before .before .before .before .loop .inv .1)
-
-add-i : tie.Need-add-i Inv-loop μ-loop
-add-i c = omega arith
-
-loop-less : tie.Need-loop-less Inv-loop μ-loop
-loop-less c = omega arith
 
 loop-again : tie.Need-loop-again Inv-loop μ-loop
 loop-again c =
@@ -77,13 +62,13 @@ put-ids-spec =
     loop-holds
     sub-put-id
     part-put-id-start
-    part-put-id-end
-    mul-put-id
-    element-copy-out-put-id
+    (λ c. search needs)  -- part-put-id-end
+    (λ c. search needs)  -- mul-put-id
+    (λ c. search needs)  -- element-copy-out-put-id
     put-id-requires
     add-at
-    add-i
-    loop-less
+    (λ c. omega arith)  -- add-i
+    (λ c. omega arith)  -- loop-less
     loop-again
     same-length
     returns)

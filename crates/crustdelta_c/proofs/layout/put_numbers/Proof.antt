@@ -26,15 +26,6 @@ sub-put-count c = place-within (c .before .loop .inv .2)
 part-put-count-start : tie.Need-part-put-count-start Inv-loop μ-loop
 part-put-count-start c = place-within (c .before .loop .inv .2)
 
-part-put-count-end : tie.Need-part-put-count-end Inv-loop μ-loop
-part-put-count-end c = search needs
-
-mul-put-count : tie.Need-mul-put-count Inv-loop μ-loop
-mul-put-count c = search needs
-
-shared-slice-read-put-count : tie.Need-shared-slice-read-put-count Inv-loop μ-loop
-shared-slice-read-put-count c = search needs
-
 put-count-requires : tie.Need-put-count-requires Inv-loop μ-loop
 put-count-requires c κs =
     let loop = c .before .before .before .loop in
@@ -44,12 +35,6 @@ put-count-requires c κs =
 
 add-at : tie.Need-add-at Inv-loop μ-loop
 add-at c = omega (arith, c .before .before .before .before .before .before .loop .inv .1)
-
-add-i : tie.Need-add-i Inv-loop μ-loop
-add-i c = omega arith
-
-loop-less : tie.Need-loop-less Inv-loop μ-loop
-loop-less c = omega arith
 
 loop-again : tie.Need-loop-again Inv-loop μ-loop
 loop-again c =
@@ -77,13 +62,13 @@ put-numbers-spec =
     loop-holds
     sub-put-count
     part-put-count-start
-    part-put-count-end
-    mul-put-count
-    shared-slice-read-put-count
+    (λ c. search needs)  -- part-put-count-end
+    (λ c. search needs)  -- mul-put-count
+    (λ c. search needs)  -- shared-slice-read-put-count
     put-count-requires
     add-at
-    add-i
-    loop-less
+    (λ c. omega arith)  -- add-i
+    (λ c. omega arith)  -- loop-less
     loop-again
     same-length
     returns)

@@ -26,15 +26,6 @@ sub-put-word c = place-within (c .before .loop .inv .2)
 part-put-word-start : tie.Need-part-put-word-start Inv-loop μ-loop
 part-put-word-start c = place-within (c .before .loop .inv .2)
 
-part-put-word-end : tie.Need-part-put-word-end Inv-loop μ-loop
-part-put-word-end c = search needs
-
-mul-put-word : tie.Need-mul-put-word Inv-loop μ-loop
-mul-put-word c = search needs
-
-element-copy-out-put-word : tie.Need-element-copy-out-put-word Inv-loop μ-loop
-element-copy-out-put-word c = search needs
-
 put-word-requires : tie.Need-put-word-requires Inv-loop μ-loop
 put-word-requires c κs =
     let loop = c .before .before .before .loop in
@@ -44,12 +35,6 @@ put-word-requires c κs =
 
 add-at : tie.Need-add-at Inv-loop μ-loop
 add-at c = omega (arith, c .before .before .before .before .before .before .loop .inv .1)
-
-add-i : tie.Need-add-i Inv-loop μ-loop
-add-i c = omega arith
-
-loop-less : tie.Need-loop-less Inv-loop μ-loop
-loop-less c = omega arith
 
 loop-again : tie.Need-loop-again Inv-loop μ-loop
 loop-again c =
@@ -77,13 +62,13 @@ put-words-spec =
     loop-holds
     sub-put-word
     part-put-word-start
-    part-put-word-end
-    mul-put-word
-    element-copy-out-put-word
+    (λ c. search needs)  -- part-put-word-end
+    (λ c. search needs)  -- mul-put-word
+    (λ c. search needs)  -- element-copy-out-put-word
     put-word-requires
     add-at
-    add-i
-    loop-less
+    (λ c. omega arith)  -- add-i
+    (λ c. omega arith)  -- loop-less
     loop-again
     same-length
     returns)

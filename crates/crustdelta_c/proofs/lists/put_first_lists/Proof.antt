@@ -23,48 +23,15 @@ few-suites c =
     let pre = c .before .before .before .before .before .before .before .before .before .pre in
     omega (arith, ap length (c .part .ensures), length-part-of (now (args .hello)) (args .suites) (pre .1 .suites-inside), pre .1 .suites-few)
 
-clear-requires : tie.Need-clear-requires
-clear-requires c κs = search needs
-
-part-requires : tie.Need-part-requires
-part-requires c κs = search needs
-
 put-list-requires : tie.Need-put-list-requires
 put-list-requires c κs =
     let pre = c .before .before .before .before .before .before .before .before .before .pre in
     omega (arith, few-suites c, c .before .before .before .before .clear .kept, pre .0)
 
-sub-put-words : tie.Need-sub-put-words
-sub-put-words c = search needs
-
-part-put-words-start : tie.Need-part-put-words-start
-part-put-words-start c = search needs
-
-part-put-words-end : tie.Need-part-put-words-end
-part-put-words-end c = search needs
-
-put-words-requires : tie.Need-put-words-requires
-put-words-requires c κs = search needs
-
-sub-put-list : tie.Need-sub-put-list
-sub-put-list c = search needs
-
-part-put-list-start : tie.Need-part-put-list-start
-part-put-list-start c = search needs
-
-part-put-list-end : tie.Need-part-put-list-end
-part-put-list-end c = search needs
-
-array-copy-out-part : tie.Need-array-copy-out-part
-array-copy-out-part c = search needs
-
 part-requires-2 : tie.Need-part-requires-2
 part-requires-2 c κs =
     let pre = c .before .before .before .before .before .before .before .before .before .before .before .before .before .before .before .before .before .before .pre in
     (pre .1 .inside) value.groups
-
-after-requires : tie.Need-after-requires
-after-requires c κs = search needs
 
 put-list-requires-2 : tie.Need-put-list-requires-2
 put-list-requires-2 c κs =
@@ -72,25 +39,10 @@ put-list-requires-2 c κs =
     let put-words = c .before .before .before .before .before .before .put-words in
     let g = groups-held (pre .1) (c .before .part2 .ensures) (c .after .ensures) in omega (arith, g .few, put-words .kept)
 
-sub-put-shares : tie.Need-sub-put-shares
-sub-put-shares c = search needs
-
-part-put-shares-start : tie.Need-part-put-shares-start
-part-put-shares-start c = search needs
-
-part-put-shares-end : tie.Need-part-put-shares-end
-part-put-shares-end c = search needs
-
-array-copy-out-part-2 : tie.Need-array-copy-out-part-2
-array-copy-out-part-2 c = search needs
-
 part-requires-3 : tie.Need-part-requires-3
 part-requires-3 c κs =
     let pre = c .before .before .before .before .before .before .before .before .before .before .before .before .before .before .before .before .before .before .before .before .before .before .before .before .before .pre in
     (pre .1 .inside) value.shares
-
-after-requires-2 : tie.Need-after-requires-2
-after-requires-2 c κs = search needs
 
 put-shares-requires : tie.Need-put-shares-requires
 put-shares-requires c κs =
@@ -100,9 +52,6 @@ put-shares-requires c κs =
     let put-words = c .before .before .before .before .before .before .before .before .before .before .before .before .before .put-words in
     let put-list2 = c .before .before .before .before .before .before .put-list2 in
     (shares-held (pre .1) (c .before .part3 .ensures) (c .after2 .ensures) .found, omega (arith, put-list2 .kept, put-words .kept, put-list .kept, clear .kept, pre .0))
-
-same-length : tie.Need-same-length
-same-length c = search needs
 
 returns : tie.Need-returns
 returns c =
@@ -139,26 +88,26 @@ pub put-first-lists-spec : {M : Type 1} → statement M
 put-first-lists-spec =
     tie.close
     (tie.spec
-    clear-requires
-    part-requires
+    (λ c κs. search needs)  -- clear-requires
+    (λ c κs. search needs)  -- part-requires
     put-list-requires
-    sub-put-words
-    part-put-words-start
-    part-put-words-end
-    put-words-requires
-    sub-put-list
-    part-put-list-start
-    part-put-list-end
-    array-copy-out-part
+    (λ c. search needs)  -- sub-put-words
+    (λ c. search needs)  -- part-put-words-start
+    (λ c. search needs)  -- part-put-words-end
+    (λ c κs. search needs)  -- put-words-requires
+    (λ c. search needs)  -- sub-put-list
+    (λ c. search needs)  -- part-put-list-start
+    (λ c. search needs)  -- part-put-list-end
+    (λ c. search needs)  -- array-copy-out-part
     part-requires-2
-    after-requires
+    (λ c κs. search needs)  -- after-requires
     put-list-requires-2
-    sub-put-shares
-    part-put-shares-start
-    part-put-shares-end
-    array-copy-out-part-2
+    (λ c. search needs)  -- sub-put-shares
+    (λ c. search needs)  -- part-put-shares-start
+    (λ c. search needs)  -- part-put-shares-end
+    (λ c. search needs)  -- array-copy-out-part-2
     part-requires-3
-    after-requires-2
+    (λ c κs. search needs)  -- after-requires-2
     put-shares-requires
-    same-length
+    (λ c. search needs)  -- same-length
     returns)

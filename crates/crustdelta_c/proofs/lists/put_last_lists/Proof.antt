@@ -21,17 +21,8 @@ use borrow.Author.Needs.{needs}
 use Rattle.crustdelta_c.proofs.lists.put_last_lists.Statement.{statement}
 use Rattle.crustdelta_c.proofs.lists.put_last_lists.Tie as tie
 
-clear-requires : tie.Need-clear-requires
-clear-requires c κs = search needs
-
-array-copy-out-part : tie.Need-array-copy-out-part
-array-copy-out-part c = search needs
-
 part-requires : tie.Need-part-requires
 part-requires c κs = (c .before .before .before .before .before .before .before .before .before .pre .1 .inside) value.algorithms
-
-after-requires : tie.Need-after-requires
-after-requires c κs = search needs
 
 put-list-requires : tie.Need-put-list-requires
 put-list-requires c κs =
@@ -39,25 +30,10 @@ put-list-requires c κs =
     let clear = c .before .before .before .before .before .before .clear in
     let a = algorithms-held (pre .1) (c .before .part .ensures) (c .after .ensures) in omega (arith, a .few, clear .kept, pre .0)
 
-sub-put-list : tie.Need-sub-put-list
-sub-put-list c = search needs
-
-part-put-list-start : tie.Need-part-put-list-start
-part-put-list-start c = search needs
-
-part-put-list-end : tie.Need-part-put-list-end
-part-put-list-end c = search needs
-
-array-copy-out-part-2 : tie.Need-array-copy-out-part-2
-array-copy-out-part-2 c = search needs
-
 part-requires-2 : tie.Need-part-requires-2
 part-requires-2 c κs =
     let pre = c .before .before .before .before .before .before .before .before .before .before .before .before .before .before .before .before .pre in
     (pre .1 .inside) value.versions
-
-after-requires-2 : tie.Need-after-requires-2
-after-requires-2 c κs = search needs
 
 put-list-requires-2 : tie.Need-put-list-requires-2
 put-list-requires-2 c κs =
@@ -65,25 +41,10 @@ put-list-requires-2 c κs =
     let put-list = c .before .before .before .before .before .before .put-list in
     let v = versions-held (pre .1) (c .before .part2 .ensures) (c .after2 .ensures) in omega (arith, v .few, put-list .kept)
 
-array-copy-out-at-protocols : tie.Need-array-copy-out-at-protocols
-array-copy-out-at-protocols c = search needs
-
-sub-put-names : tie.Need-sub-put-names
-sub-put-names c = search needs
-
-part-put-names-start : tie.Need-part-put-names-start
-part-put-names-start c = search needs
-
-part-put-names-end : tie.Need-part-put-names-end
-part-put-names-end c = search needs
-
 part-requires-3 : tie.Need-part-requires-3
 part-requires-3 c κs =
     let pre = c .before .before .before .before .before .before .before .before .before .before .before .before .before .before .before .before .before .before .before .before .before .before .before .pre in
     (pre .1 .inside) value.protocols
-
-after-requires-3 : tie.Need-after-requires-3
-after-requires-3 c κs = search needs
 
 add-put-names : tie.Need-add-put-names
 add-put-names c =
@@ -113,9 +74,6 @@ part-put-ids-start c =
     let put-list = c .before .before .before .before .before .before .before .before .before .before .before .before .before .before .before .before .before .put-list in
     let put-list2 = c .before .before .before .before .before .before .before .before .before .before .put-list2 in
     omega (arith, c .before .before .put-names .kept, put-list2 .kept, put-list .kept, clear .kept, pre .0)
-
-part-put-ids-end : tie.Need-part-put-ids-end
-part-put-ids-end c = search needs
 
 put-ids-requires : tie.Need-put-ids-requires
 put-ids-requires c κs =
@@ -171,29 +129,29 @@ pub put-last-lists-spec : {M : Type 1} → statement M
 put-last-lists-spec =
     tie.close
     (tie.spec
-    clear-requires
-    array-copy-out-part
+    (λ c κs. search needs)  -- clear-requires
+    (λ c. search needs)  -- array-copy-out-part
     part-requires
-    after-requires
+    (λ c κs. search needs)  -- after-requires
     put-list-requires
-    sub-put-list
-    part-put-list-start
-    part-put-list-end
-    array-copy-out-part-2
+    (λ c. search needs)  -- sub-put-list
+    (λ c. search needs)  -- part-put-list-start
+    (λ c. search needs)  -- part-put-list-end
+    (λ c. search needs)  -- array-copy-out-part-2
     part-requires-2
-    after-requires-2
+    (λ c κs. search needs)  -- after-requires-2
     put-list-requires-2
-    array-copy-out-at-protocols
-    sub-put-names
-    part-put-names-start
-    part-put-names-end
+    (λ c. search needs)  -- array-copy-out-at-protocols
+    (λ c. search needs)  -- sub-put-names
+    (λ c. search needs)  -- part-put-names-start
+    (λ c. search needs)  -- part-put-names-end
     part-requires-3
-    after-requires-3
+    (λ c κs. search needs)  -- after-requires-3
     add-put-names
     put-names-requires
     sub-put-ids
     part-put-ids-start
-    part-put-ids-end
+    (λ c. search needs)  -- part-put-ids-end
     put-ids-requires
     same-length
     returns)

@@ -48,29 +48,11 @@ loop-holds c =
     let long = length-pieces (little 2) 2 (length-little 2) (wordsIn list) in
     (zero-le, begins _ _ (omega (arith, long, length-wordsIn list, c .before .before .pre)))
 
-mul-put-word : tie.Need-mul-put-word Inv-loop μ-loop
-mul-put-word c = search needs
-
 sub-put-word : tie.Need-sub-put-word Inv-loop μ-loop
 sub-put-word c = place-within (c .before .loop .inv .1)
 
 part-put-word-start : tie.Need-part-put-word-start Inv-loop μ-loop
 part-put-word-start c = place-within (c .before .loop .inv .1)
-
-part-put-word-end : tie.Need-part-put-word-end Inv-loop μ-loop
-part-put-word-end c = search needs
-
-mul-be16 : tie.Need-mul-be16 Inv-loop μ-loop
-mul-be16 c = search needs
-
-sub-be16 : tie.Need-sub-be16 Inv-loop μ-loop
-sub-be16 c = search needs
-
-part-be16-start : tie.Need-part-be16-start Inv-loop μ-loop
-part-be16-start c = search needs
-
-part-be16-end : tie.Need-part-be16-end Inv-loop μ-loop
-part-be16-end c = search needs
 
 be16-requires : tie.Need-be16-requires Inv-loop μ-loop
 be16-requires c κs =
@@ -80,12 +62,6 @@ be16-requires c κs =
 put-word-requires : tie.Need-put-word-requires Inv-loop μ-loop
 put-word-requires c κs =
     next-room-is (little 2) 2 (length-little 2) (c .be16 .result) (more c) (c .before .before .before .before .loop .inv .1) (from c)
-
-add-i : tie.Need-add-i Inv-loop μ-loop
-add-i c = search needs
-
-loop-less : tie.Need-loop-less Inv-loop μ-loop
-loop-less c = search needs
 
 loop-again : tie.Need-loop-again Inv-loop μ-loop
 loop-again c =
@@ -113,18 +89,18 @@ put-list-spec =
     Inv-loop
     μ-loop
     loop-holds
-    mul-put-word
+    (λ c. search needs)  -- mul-put-word
     sub-put-word
     part-put-word-start
-    part-put-word-end
-    mul-be16
-    sub-be16
-    part-be16-start
-    part-be16-end
+    (λ c. search needs)  -- part-put-word-end
+    (λ c. search needs)  -- mul-be16
+    (λ c. search needs)  -- sub-be16
+    (λ c. search needs)  -- part-be16-start
+    (λ c. search needs)  -- part-be16-end
     be16-requires
     put-word-requires
-    add-i
-    loop-less
+    (λ c. search needs)  -- add-i
+    (λ c. search needs)  -- loop-less
     loop-again
     same-length
     returns)

@@ -86,12 +86,6 @@ part-one-name-start c = omega (arith, c .loop-test .taken)
 part-one-name-end : tie.Need-part-one-name-end Inv-loop μ-loop
 part-one-name-end c = omega (arith, c .loop-test .taken)
 
-one-name-requires : tie.Need-one-name-requires Inv-loop μ-loop
-one-name-requires c κs = search needs
-
-enum-known-length : tie.Need-enum-known-length Inv-loop μ-loop
-enum-known-length c = search needs
-
 enum-told : tie.Need-enum-told Inv-loop μ-loop
 enum-told c = search needs
 
@@ -105,9 +99,6 @@ sub-put-range c = place-within (c .before .before .before .before .before .befor
 
 part-put-range-start : tie.Need-part-put-range-start Inv-loop μ-loop
 part-put-range-start c = place-within (c .before .before .before .before .before .before .loop .inv .written)
-
-part-put-range-end : tie.Need-part-put-range-end Inv-loop μ-loop
-part-put-range-end c = search needs
 
 add-t19 : tie.Need-add-t19 Inv-loop μ-loop
 add-t19 c = omega (arith, within (c .before), c .before .before .before .before .before .before .before .before .before .before .pre .1)
@@ -183,13 +174,13 @@ put-names-spec =
     sub-one-name
     part-one-name-start
     part-one-name-end
-    one-name-requires
-    enum-known-length
+    (λ c κs. search needs)  -- one-name-requires
+    (λ c. search needs)  -- enum-known-length
     enum-told
     mul-put-range
     sub-put-range
     part-put-range-start
-    part-put-range-end
+    (λ c. search needs)  -- part-put-range-end
     add-t19
     add-t20
     put-range-requires

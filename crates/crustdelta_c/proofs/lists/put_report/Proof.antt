@@ -7,46 +7,10 @@ use borrow.Author.Needs.{needs}
 use Rattle.crustdelta_c.proofs.lists.put_report.Statement.{statement}
 use Rattle.crustdelta_c.proofs.lists.put_report.Tie as tie
 
-sub-put-first-lists : tie.Need-sub-put-first-lists
-sub-put-first-lists c = search needs
-
-part-put-first-lists-start : tie.Need-part-put-first-lists-start
-part-put-first-lists-start c = search needs
-
-part-put-first-lists-end : tie.Need-part-put-first-lists-end
-part-put-first-lists-end c = search needs
-
-put-first-lists-requires : tie.Need-put-first-lists-requires
-put-first-lists-requires c κs = search needs
-
-sub-put-last-lists : tie.Need-sub-put-last-lists
-sub-put-last-lists c = search needs
-
-part-put-last-lists-start : tie.Need-part-put-last-lists-start
-part-put-last-lists-start c = search needs
-
-part-put-last-lists-end : tie.Need-part-put-last-lists-end
-part-put-last-lists-end c = search needs
-
-put-last-lists-requires : tie.Need-put-last-lists-requires
-put-last-lists-requires c κs = search needs
-
-slice-aggregate-put-counts : tie.Need-slice-aggregate-put-counts
-slice-aggregate-put-counts c = search needs
-
-array-copy-out-name-in : tie.Need-array-copy-out-name-in
-array-copy-out-name-in c = search needs
-
 name-in-requires : tie.Need-name-in-requires
 name-in-requires c κs =
     let pre = c .before .before .before .before .before .before .before .before .before .before .before .before .before .before .pre in
     omega (arith, (pre .1 .inside) value.name, pre .1 .short)
-
-put-counts-requires : tie.Need-put-counts-requires
-put-counts-requires c κs = search needs
-
-same-length : tie.Need-same-length
-same-length c = search needs
 
 returns : tie.Need-returns
 returns c =
@@ -61,17 +25,17 @@ pub put-report-spec : {M : Type 1} → statement M
 put-report-spec =
     tie.close
     (tie.spec
-    sub-put-first-lists
-    part-put-first-lists-start
-    part-put-first-lists-end
-    put-first-lists-requires
-    sub-put-last-lists
-    part-put-last-lists-start
-    part-put-last-lists-end
-    put-last-lists-requires
-    slice-aggregate-put-counts
-    array-copy-out-name-in
+    (λ c. search needs)  -- sub-put-first-lists
+    (λ c. search needs)  -- part-put-first-lists-start
+    (λ c. search needs)  -- part-put-first-lists-end
+    (λ c κs. search needs)  -- put-first-lists-requires
+    (λ c. search needs)  -- sub-put-last-lists
+    (λ c. search needs)  -- part-put-last-lists-start
+    (λ c. search needs)  -- part-put-last-lists-end
+    (λ c κs. search needs)  -- put-last-lists-requires
+    (λ c. search needs)  -- slice-aggregate-put-counts
+    (λ c. search needs)  -- array-copy-out-name-in
     name-in-requires
-    put-counts-requires
-    same-length
+    (λ c κs. search needs)  -- put-counts-requires
+    (λ c. search needs)  -- same-length
     returns)

@@ -73,12 +73,6 @@ part-one-share-start c = omega (arith, c .loop-test .taken)
 part-one-share-end : tie.Need-part-one-share-end Inv-loop μ-loop
 part-one-share-end c = omega (arith, c .loop-test .taken)
 
-one-share-requires : tie.Need-one-share-requires Inv-loop μ-loop
-one-share-requires c κs = search needs
-
-enum-known-group : tie.Need-enum-known-group Inv-loop μ-loop
-enum-known-group c = search needs
-
 enum-told : tie.Need-enum-told Inv-loop μ-loop
 enum-told c = search needs
 
@@ -90,9 +84,6 @@ sub-put-word c = place-within (c .before .before .before .before .before .before
 
 part-put-word-start : tie.Need-part-put-word-start Inv-loop μ-loop
 part-put-word-start c = place-within (c .before .before .before .before .before .before .loop .inv .written)
-
-part-put-word-end : tie.Need-part-put-word-end Inv-loop μ-loop
-part-put-word-end c = search needs
 
 put-word-requires : tie.Need-put-word-requires Inv-loop μ-loop
 put-word-requires c κs =
@@ -154,13 +145,13 @@ put-shares-spec =
     sub-one-share
     part-one-share-start
     part-one-share-end
-    one-share-requires
-    enum-known-group
+    (λ c κs. search needs)  -- one-share-requires
+    (λ c. search needs)  -- enum-known-group
     enum-told
     mul-put-word
     sub-put-word
     part-put-word-start
-    part-put-word-end
+    (λ c. search needs)  -- part-put-word-end
     put-word-requires
     add-at
     add-k

@@ -14,12 +14,6 @@ use Rattle.fingerprint.proofs.head.after_length.Tie as tie
 returns : tie.Need-returns
 returns c = not-in-form (c .before .before .args .hello .now) (fields (drop 4 (c .before .before .args .hello .now))) (c .before .before .pre .is) (fields-short (c .before .before .args .hello .now) (c .if1 .taken))
 
-shared-slice-read-wide : tie.Need-shared-slice-read-wide
-shared-slice-read-wide c = search needs
-
-wide-requires : tie.Need-wide-requires
-wide-requires c κs = search needs
-
 returns-2 : tie.Need-returns-2
 returns-2 c =
     not-in-form (c .before .before .before .before .before .args .hello .now) (fields (drop 4 (c .before .before .before .before .before .args .hello .now))) (c .before .before .before .before .before .pre .is) (session-long (c .before .before .before .before .before .args .hello .now) (c .before .before .before .if1 .left) (c .before .wide .result) (sym (c .before .wide .ensures .0)) (c .if2 .taken))
@@ -43,17 +37,14 @@ after-session-requires c κs =
       short = p .short;
     }
 
-returns-4 : tie.Need-returns-4
-returns-4 c = search needs
-
 pub after-length-spec : {M : Type 1} → statement M
 after-length-spec =
     tie.close
     (tie.spec
     returns
-    shared-slice-read-wide
-    wide-requires
+    (λ c. search needs)  -- shared-slice-read-wide
+    (λ c κs. search needs)  -- wide-requires
     returns-2
     returns-3
     after-session-requires
-    returns-4)
+    (λ c. search needs))  -- returns-4

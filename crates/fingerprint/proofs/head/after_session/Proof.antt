@@ -19,35 +19,11 @@ count c = sym (rw (part-to-end (c .before .before .before .before .args .hello .
 block : (c : tie.After-known-told) → BlockFound (c .before .before .before .before .before .before .before .before .before .before .before .args .hello .now) (39 + (c .before .before .before .before .before .before .before .before .before .before .before .args .session) + 2 + (c .before .before .before .before .before .before .before .be16 .result)) (c .before .block .given .0 .0)
 block c = subst (λ (x : Place). BlockAs x (c .before .before .before .before .before .before .before .before .before .before .before .args .hello .now) (39 + (c .before .before .before .before .before .before .before .before .before .before .before .args .session) + 2 + (c .before .before .before .before .before .before .before .be16 .result))) (c .before .block .given .1) (c .before .before .before .after-suites .ensures)
 
-add-at : tie.Need-add-at
-add-at c = search needs
-
-sub-if1 : tie.Need-sub-if1
-sub-if1 c = search needs
-
 returns : tie.Need-returns
 returns c =
     let p = c .before .before .pre in
     not-in-form (c .before .before .args .hello .now) (afterSession (p .version) (p .random) (p .id) (drop (39 + (c .before .before .args .session)) (c .before .before .args .hello .now))) (p .is)
     (suites-short (p .version) (p .random) (p .id) (c .before .before .args .hello .now) (39 + (c .before .before .args .session)) (p .inside) (c .if1 .taken))
-
-sub-be16 : tie.Need-sub-be16
-sub-be16 c = search needs
-
-part-be16-start : tie.Need-part-be16-start
-part-be16-start c = search needs
-
-part-be16-end : tie.Need-part-be16-end
-part-be16-end c = search needs
-
-be16-requires : tie.Need-be16-requires
-be16-requires c κs = search needs
-
-cast-length : tie.Need-cast-length
-cast-length c = search needs
-
-add-start : tie.Need-add-start
-add-start c = search needs
 
 returns-2 : tie.Need-returns-2
 returns-2 c =
@@ -61,23 +37,11 @@ returns-3 c =
     not-in-form (c .before .before .before .before .before .before .args .hello .now) (afterSession (p .version) (p .random) (p .id) (drop (39 + (c .before .before .before .before .before .before .args .session)) (c .before .before .before .before .before .before .args .hello .now))) (p .is)
     (suites-odd (p .version) (p .random) (p .id) (c .before .before .before .before .before .before .args .hello .now) (39 + (c .before .before .before .before .before .before .args .session)) (p .inside) (c .before .before .before .before .if1 .left) (c .before .before .be16 .result) (count (c .before .before)) (c .before .if2 .left) (c .if3 .taken))
 
-sub-if4 : tie.Need-sub-if4
-sub-if4 c = search needs
-
 returns-4 : tie.Need-returns-4
 returns-4 c =
     let p = c .before .before .before .before .before .before .before .pre in
     not-in-form (c .before .before .before .before .before .before .before .args .hello .now) (afterSession (p .version) (p .random) (p .id) (drop (39 + (c .before .before .before .before .before .before .before .args .session)) (c .before .before .before .before .before .before .before .args .hello .now))) (p .is)
     (suites-cut (p .version) (p .random) (p .id) (c .before .before .before .before .before .before .before .args .hello .now) (39 + (c .before .before .before .before .before .before .before .args .session)) (p .inside) (c .before .before .before .before .before .if1 .left) (c .before .before .before .be16 .result) (count (c .before .before .before)) (c .if4 .taken))
-
-add-after-suites : tie.Need-add-after-suites
-add-after-suites c = search needs
-
-after-suites-requires : tie.Need-after-suites-requires
-after-suites-requires c κs = search needs
-
-enum-known-block : tie.Need-enum-known-block
-enum-known-block c = search needs
 
 enum-told : tie.Need-enum-told
 enum-told c = search needs
@@ -95,22 +59,22 @@ pub after-session-spec : {M : Type 1} → statement M
 after-session-spec =
     tie.close
     (tie.spec
-    add-at
-    sub-if1
+    (λ c. search needs)  -- add-at
+    (λ c. search needs)  -- sub-if1
     returns
-    sub-be16
-    part-be16-start
-    part-be16-end
-    be16-requires
-    cast-length
-    add-start
+    (λ c. search needs)  -- sub-be16
+    (λ c. search needs)  -- part-be16-start
+    (λ c. search needs)  -- part-be16-end
+    (λ c κs. search needs)  -- be16-requires
+    (λ c. search needs)  -- cast-length
+    (λ c. search needs)  -- add-start
     returns-2
     returns-3
-    sub-if4
+    (λ c. search needs)  -- sub-if4
     returns-4
-    add-after-suites
-    after-suites-requires
-    enum-known-block
+    (λ c. search needs)  -- add-after-suites
+    (λ c κs. search needs)  -- after-suites-requires
+    (λ c. search needs)  -- enum-known-block
     enum-told
     returns-5
     returns-6)

@@ -7,38 +7,14 @@ use borrow.Author.Needs.{needs}
 use Rattle.fingerprint.proofs.head.after_suites.Statement.{statement}
 use Rattle.fingerprint.proofs.head.after_suites.Tie as tie
 
-sub-if1 : tie.Need-sub-if1
-sub-if1 c = search needs
-
 returns : tie.Need-returns
 returns c = λ version random id suites. compression-short version random id suites (c .before .before .args .hello .now) (c .before .before .args .at) (c .if1 .taken)
-
-shared-slice-read-wide : tie.Need-shared-slice-read-wide
-shared-slice-read-wide c = search needs
-
-wide-requires : tie.Need-wide-requires
-wide-requires c κs = search needs
 
 returns-2 : tie.Need-returns-2
 returns-2 c = λ version random id suites. compression-empty version random id suites (c .before .before .before .before .before .args .hello .now) (c .before .before .before .before .before .args .at) (omega (arith, (c .before .before .before .if1 .left))) (c .before .wide .result) (sym (c .before .wide .ensures .0)) (c .if2 .taken)
 
-sub-if3 : tie.Need-sub-if3
-sub-if3 c = search needs
-
-sub-if3-2 : tie.Need-sub-if3-2
-sub-if3-2 c = search needs
-
 returns-3 : tie.Need-returns-3
 returns-3 c = λ version random id suites. compression-cut version random id suites (c .before .before .before .before .before .before .args .hello .now) (c .before .before .before .before .before .before .args .at) (omega (arith, (c .before .before .before .before .if1 .left))) (c .before .before .wide .result) (sym (c .before .before .wide .ensures .0)) (c .if3 .taken)
-
-add-block-at : tie.Need-add-block-at
-add-block-at c = search needs
-
-add-block-at-2 : tie.Need-add-block-at-2
-add-block-at-2 c = search needs
-
-block-at-requires : tie.Need-block-at-requires
-block-at-requires c κs = search needs
 
 returns-4 : tie.Need-returns-4
 returns-4 c =
@@ -48,15 +24,15 @@ pub after-suites-spec : {M : Type 1} → statement M
 after-suites-spec =
     tie.close
     (tie.spec
-    sub-if1
+    (λ c. search needs)  -- sub-if1
     returns
-    shared-slice-read-wide
-    wide-requires
+    (λ c. search needs)  -- shared-slice-read-wide
+    (λ c κs. search needs)  -- wide-requires
     returns-2
-    sub-if3
-    sub-if3-2
+    (λ c. search needs)  -- sub-if3
+    (λ c. search needs)  -- sub-if3-2
     returns-3
-    add-block-at
-    add-block-at-2
-    block-at-requires
+    (λ c. search needs)  -- add-block-at
+    (λ c. search needs)  -- add-block-at-2
+    (λ c κs. search needs)  -- block-at-requires
     returns-4)

@@ -12,38 +12,11 @@ use Rattle.fingerprint.proofs.head.block_at.Tie as tie
 count : (c : tie.After-be16) → number 256 (take 2 (drop (c .before .before .before .before .args .at) (c .before .before .before .before .args .hello .now))) ≡ (c .be16 .result)
 count c = sym (rw (part-to-end (c .before .before .before .before .args .hello .now) (c .before .before .before .before .args .at)) at (c .be16 .ensures))
 
-sub-if1 : tie.Need-sub-if1
-sub-if1 c = search needs
-
 returns : tie.Need-returns
 returns c = end-short (c .before .before .args .hello .now) (c .before .before .args .at) (c .if1 .taken)
 
-sub-be16 : tie.Need-sub-be16
-sub-be16 c = search needs
-
-part-be16-start : tie.Need-part-be16-start
-part-be16-start c = search needs
-
-part-be16-end : tie.Need-part-be16-end
-part-be16-end c = search needs
-
-be16-requires : tie.Need-be16-requires
-be16-requires c κs = search needs
-
-cast-if2 : tie.Need-cast-if2
-cast-if2 c = search needs
-
-sub-if2 : tie.Need-sub-if2
-sub-if2 c = search needs
-
-sub-if2-2 : tie.Need-sub-if2-2
-sub-if2-2 c = search needs
-
 returns-2 : tie.Need-returns-2
 returns-2 c = end-other (c .before .before .before .before .before .args .hello .now) (c .before .before .before .before .before .args .at) (c .before .before .before .if1 .left) (c .before .be16 .result) (count (c .before)) (c .if2 .taken)
-
-add-t4 : tie.Need-add-t4
-add-t4 c = search needs
 
 returns-3 : tie.Need-returns-3
 returns-3 c = (end-there (c .before .before .before .before .before .args .hello .now) (c .before .before .before .before .before .args .at) (c .before .before .before .if1 .left) (c .before .be16 .result) (count (c .before)) (c .if2 .left), refl, omega arith)
@@ -52,15 +25,15 @@ pub block-at-spec : {M : Type 1} → statement M
 block-at-spec =
     tie.close
     (tie.spec
-    sub-if1
+    (λ c. search needs)  -- sub-if1
     returns
-    sub-be16
-    part-be16-start
-    part-be16-end
-    be16-requires
-    cast-if2
-    sub-if2
-    sub-if2-2
+    (λ c. search needs)  -- sub-be16
+    (λ c. search needs)  -- part-be16-start
+    (λ c. search needs)  -- part-be16-end
+    (λ c κs. search needs)  -- be16-requires
+    (λ c. search needs)  -- cast-if2
+    (λ c. search needs)  -- sub-if2
+    (λ c. search needs)  -- sub-if2-2
     returns-2
-    add-t4
+    (λ c. search needs)  -- add-t4
     returns-3)

@@ -23,41 +23,11 @@ returns c = refused-with 16 (c .before .before .args .hello .now) (lit≤ tt, li
 returns-2 : tie.Need-returns-2
 returns-2 c = refused-with 17 (c .before .before .before .args .hello .now) (lit≤ tt, lit≤ tt) (read-empty (c .before .before .before .args .hello .now) (c .before .if1 .left) (c .if2 .taken))
 
-shared-slice-read-if3 : tie.Need-shared-slice-read-if3
-shared-slice-read-if3 c = search needs
-
 returns-3 : tie.Need-returns-3
 returns-3 c = refused-with 17 (c .before .before .before .before .before .args .hello .now) (lit≤ tt, lit≤ tt) (read-type (c .before .before .before .before .before .args .hello .now) (c .before .before .before .if1 .left) (search needs) (c .if3 .taken))
 
 returns-4 : tie.Need-returns-4
 returns-4 c = refused-with 18 (c .before .before .before .before .before .before .args .hello .now) (lit≤ tt, lit≤ tt) (read-few (c .before .before .before .before .before .before .args .hello .now) (c .before .before .before .before .if1 .left) (search needs) (c .before .if3 .left) (c .if4 .taken))
-
-shared-slice-read-wide : tie.Need-shared-slice-read-wide
-shared-slice-read-wide c = search needs
-
-wide-requires : tie.Need-wide-requires
-wide-requires c κs = search needs
-
-mul-length : tie.Need-mul-length
-mul-length c = search needs
-
-sub-be16 : tie.Need-sub-be16
-sub-be16 c = search needs
-
-part-be16-start : tie.Need-part-be16-start
-part-be16-start c = search needs
-
-part-be16-end : tie.Need-part-be16-end
-part-be16-end c = search needs
-
-be16-requires : tie.Need-be16-requires
-be16-requires c κs = search needs
-
-cast-length : tie.Need-cast-length
-cast-length c = search needs
-
-add-length : tie.Need-add-length
-add-length c = search needs
 
 returns-5 : tie.Need-returns-5
 returns-5 c =
@@ -71,27 +41,24 @@ after-length-requires c κs =
       short = (c .before .before .before .before .before .before .before .before .before .if1 .left);
     }
 
-returns-6 : tie.Need-returns-6
-returns-6 c = search needs
-
 pub read-fields-spec : {M : Type 1} → statement M
 read-fields-spec =
     tie.close
     (tie.spec
     returns
     returns-2
-    shared-slice-read-if3
+    (λ c. search needs)  -- shared-slice-read-if3
     returns-3
     returns-4
-    shared-slice-read-wide
-    wide-requires
-    mul-length
-    sub-be16
-    part-be16-start
-    part-be16-end
-    be16-requires
-    cast-length
-    add-length
+    (λ c. search needs)  -- shared-slice-read-wide
+    (λ c κs. search needs)  -- wide-requires
+    (λ c. search needs)  -- mul-length
+    (λ c. search needs)  -- sub-be16
+    (λ c. search needs)  -- part-be16-start
+    (λ c. search needs)  -- part-be16-end
+    (λ c κs. search needs)  -- be16-requires
+    (λ c. search needs)  -- cast-length
+    (λ c. search needs)  -- add-length
     returns-5
     after-length-requires
-    returns-6)
+    (λ c. search needs))  -- returns-6

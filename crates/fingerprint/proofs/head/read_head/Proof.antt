@@ -10,17 +10,8 @@ use Rattle.fingerprint.proofs.head.read_head.Tie as tie
 found : (c : tie.After-known-told) → FieldsFound (c .before .before .before .before .before .args .hello .now) (c .before .session .given .0 .0) (c .before .session .given .0 .1 .0) (c .before .session .given .0 .1 .1 .0)
 found c = subst (λ (x : Head). FieldsAs x (c .before .before .before .before .before .args .hello .now)) (c .before .session .given .1) (c .before .before .before .read-fields .ensures)
 
-read-fields-requires : tie.Need-read-fields-requires
-read-fields-requires c κs = search needs
-
-enum-known-session : tie.Need-enum-known-session
-enum-known-session c = search needs
-
 returns : tie.Need-returns
 returns c = many-suites (found (c .before .before)) (c .if1 .taken)
-
-enum-known-number : tie.Need-enum-known-number
-enum-known-number c = search needs
 
 returns-2 : tie.Need-returns-2
 returns-2 c = head-there (found (c .before .before)) (c .if1 .left)
@@ -34,9 +25,9 @@ pub read-head-spec : {M : Type 1} → statement M
 read-head-spec =
     tie.close
     (tie.spec
-    read-fields-requires
-    enum-known-session
+    (λ c κs. search needs)  -- read-fields-requires
+    (λ c. search needs)  -- enum-known-session
     returns
-    enum-known-number
+    (λ c. search needs)  -- enum-known-number
     returns-2
     returns-3)

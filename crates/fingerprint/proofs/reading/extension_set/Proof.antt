@@ -18,17 +18,8 @@ head c = subst (λ (x : Head). HeadAs x (c .before .before .before .before .befo
 surveyed : (c : tie.Else1) → Surveyed (c .before .before .before .before .before .before .before .before .before .before .args .hello .now) (c .before .before .before .before .before .before .block .given .0 .1 .1 .0) (c .before .before .survey-block .result) (c .before .before .survey-block .last .1 .1 .0) (c .before .before .survey-block .last .1 .1 .1 .0)
 surveyed c = (c .before .before .survey-block .ensures .accepted) (c .if1 .left)
 
-read-head-requires : tie.Need-read-head-requires
-read-head-requires c κs = search needs
-
-enum-known-block : tie.Need-enum-known-block
-enum-known-block c = search needs
-
 enum-told : tie.Need-enum-told
 enum-told c = search needs
-
-no-types-requires : tie.Need-no-types-requires
-no-types-requires c κs = search needs
 
 returns : tie.Need-returns
 returns c =
@@ -37,9 +28,6 @@ returns c =
 
 survey-block-requires : tie.Need-survey-block-requires
 survey-block-requires c κs = (head (c .before .before) .inside, head (c .before .before) .short, refl, refl)
-
-no-types-requires-2 : tie.Need-no-types-requires-2
-no-types-requires-2 c κs = search needs
 
 returns-2 : tie.Need-returns-2
 returns-2 c =
@@ -67,13 +55,13 @@ pub extension-set-spec : {M : Type 1} → statement M
 extension-set-spec =
     tie.close
     (tie.spec
-    read-head-requires
-    enum-known-block
+    (λ c κs. search needs)  -- read-head-requires
+    (λ c. search needs)  -- enum-known-block
     enum-told
-    no-types-requires
+    (λ c κs. search needs)  -- no-types-requires
     returns
     survey-block-requires
-    no-types-requires-2
+    (λ c κs. search needs)  -- no-types-requires-2
     returns-2
     ext-types-requires
     sorted-requires

@@ -14,12 +14,6 @@ head c = subst (λ (x : Head). HeadAs x (c .before .before .before .before .befo
 surveyed : (c : tie.Else1) → Surveyed (c .before .before .before .before .before .before .before .before .before .before .before .args .hello .now) (c .before .before .before .before .before .before .block .given .0 .1 .1 .0) (c .before .before .survey-block .result) (c .before .before .survey-block .last .1 .1 .0) (c .before .before .survey-block .last .1 .1 .1 .0)
 surveyed c = (c .before .before .survey-block .ensures .accepted) (c .if1 .left)
 
-read-head-requires : tie.Need-read-head-requires
-read-head-requires c κs = search needs
-
-enum-known-block : tie.Need-enum-known-block
-enum-known-block c = search needs
-
 enum-told : tie.Need-enum-told
 enum-told c = search needs
 
@@ -36,20 +30,11 @@ returns-2 c =
     let e = read-refused (head (c .before .before .before .before .before)) (c .before .before .survey-block .result .number) ((c .before .before .survey-block .ensures .refuses) (omega (arith, (c .if1 .taken)))) in
     name-refused e (c .before .before .before .before .before .before .before .before .before .before .before .args .default .now)
 
-array-copy-out-body : tie.Need-array-copy-out-body
-array-copy-out-body c = search needs
-
 name-in-requires : tie.Need-name-in-requires
 name-in-requires c κs = omega (arith, (surveyed (c .before .before)) .notes name .inside, (head (c .before .before .before .before .before .before .before)) .short)
 
-enum-known-s : tie.Need-enum-known-s
-enum-known-s c = search needs
-
 part-requires : tie.Need-part-requires
 part-requires c κs = name-inside (head (c .before .before .before .before .before .before .before .before .before .before .before)) (surveyed (c .before .before .before .before .before .before)) (c .before .s .given .0 .0) (sym (c .before .before .before .name-in .ensures) ∙ (c .before .s .given .1))
-
-enum-told-2 : tie.Need-enum-told-2
-enum-told-2 c = search needs
 
 returns-3 : tie.Need-returns-3
 returns-3 c =
@@ -66,16 +51,16 @@ pub name-or-spec : {M : Type 1} → statement M
 name-or-spec =
     tie.close
     (tie.spec
-    read-head-requires
-    enum-known-block
+    (λ c κs. search needs)  -- read-head-requires
+    (λ c. search needs)  -- enum-known-block
     enum-told
     returns
     survey-block-requires
     returns-2
-    array-copy-out-body
+    (λ c. search needs)  -- array-copy-out-body
     name-in-requires
-    enum-known-s
+    (λ c. search needs)  -- enum-known-s
     part-requires
-    enum-told-2
+    (λ c. search needs)  -- enum-told-2
     returns-3
     returns-4)

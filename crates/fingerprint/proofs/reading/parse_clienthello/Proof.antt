@@ -10,12 +10,6 @@ use Rattle.fingerprint.proofs.reading.parse_clienthello.Tie as tie
 head : (c : tie.After-known-told) → HeadFound (c .before .before .before .before .before .args .hello .now) (c .before .session .given .0 .0) (c .before .session .given .0 .1 .0) (c .before .session .given .0 .1 .1 .0)
 head c = subst (λ (x : Head). HeadAs x (c .before .before .before .before .before .args .hello .now)) (c .before .session .given .1) (c .before .before .before .read-head .ensures)
 
-read-head-requires : tie.Need-read-head-requires
-read-head-requires c κs = search needs
-
-enum-known-session : tie.Need-enum-known-session
-enum-known-session c = search needs
-
 survey-block-requires : tie.Need-survey-block-requires
 survey-block-requires c κs = (head (c .before .before) .inside, head (c .before .before) .short, refl, refl)
 
@@ -27,15 +21,6 @@ returns c =
     let head = head (c .before .before .before .before .before) in
     let s = (c .before .before .survey-block .ensures .accepted) (c .before .if1 .taken) in
     parsed-result head s (c .report .result) ((c .report .ensures .is) (helloOf head s) (found-of head s))
-
-refused-requires : tie.Need-refused-requires
-refused-requires c κs = search needs
-
-enum-known-number : tie.Need-enum-known-number
-enum-known-number c = search needs
-
-refused-requires-2 : tie.Need-refused-requires-2
-refused-requires-2 c κs = search needs
 
 returns-2 : tie.Need-returns-2
 returns-2 c =
@@ -51,13 +36,13 @@ pub parse-clienthello-spec : {M : Type 1} → statement M
 parse-clienthello-spec =
     tie.close
     (tie.spec
-    read-head-requires
-    enum-known-session
+    (λ c κs. search needs)  -- read-head-requires
+    (λ c. search needs)  -- enum-known-session
     survey-block-requires
     report-requires
     returns
-    refused-requires
-    enum-known-number
-    refused-requires-2
+    (λ c κs. search needs)  -- refused-requires
+    (λ c. search needs)  -- enum-known-number
+    (λ c κs. search needs)  -- refused-requires-2
     returns-2
     returns-3)

@@ -10,17 +10,8 @@ use Rattle.fingerprint.proofs.reading.refusal.Tie as tie
 head : (c : tie.After-known-told) → HeadFound (c .before .before .before .before .before .args .hello .now) (c .before .block .given .0 .0) (c .before .block .given .0 .1 .0) (c .before .block .given .0 .1 .1 .0)
 head c = subst (λ (x : Head). HeadAs x (c .before .before .before .before .before .args .hello .now)) (c .before .block .given .1) (c .before .before .before .read-head .ensures)
 
-read-head-requires : tie.Need-read-head-requires
-read-head-requires c κs = search needs
-
-enum-known-block : tie.Need-enum-known-block
-enum-known-block c = search needs
-
 survey-block-requires : tie.Need-survey-block-requires
 survey-block-requires c κs = (head (c .before .before) .inside, head (c .before .before) .short, refl, refl)
-
-enum-known-number : tie.Need-enum-known-number
-enum-known-number c = search needs
 
 returns : tie.Need-returns
 returns c = survey-number (head (c .before .before .before)) (c .survey-block .ensures)
@@ -35,9 +26,9 @@ pub refusal-spec : {M : Type 1} → statement M
 refusal-spec =
     tie.close
     (tie.spec
-    read-head-requires
-    enum-known-block
+    (λ c κs. search needs)  -- read-head-requires
+    (λ c. search needs)  -- enum-known-block
     survey-block-requires
-    enum-known-number
+    (λ c. search needs)  -- enum-known-number
     returns
     returns-2)

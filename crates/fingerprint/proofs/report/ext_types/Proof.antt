@@ -30,24 +30,6 @@ filled-all l e =
 loop-holds : tie.Need-loop-holds Inv-loop μ-loop
 loop-holds c = filled-start 64 (extType 0) (map extType (c .args .numbers .now)) (map extType (c .args .numbers .now)) refl
 
-mul-t6 : tie.Need-mul-t6 Inv-loop μ-loop
-mul-t6 c = search needs
-
-element-copy-out-t9 : tie.Need-element-copy-out-t9 Inv-loop μ-loop
-element-copy-out-t9 c = search needs
-
-mul-types : tie.Need-mul-types Inv-loop μ-loop
-mul-types c = search needs
-
-array-set-from-types : tie.Need-array-set-from-types Inv-loop μ-loop
-array-set-from-types c = search needs
-
-add-i : tie.Need-add-i Inv-loop μ-loop
-add-i c = search needs
-
-loop-less : tie.Need-loop-less Inv-loop μ-loop
-loop-less c = search needs
-
 loop-again : tie.Need-loop-again Inv-loop μ-loop
 loop-again c =
     let l = c .before .before .loop in
@@ -72,11 +54,11 @@ ext-types-spec =
     Inv-loop
     μ-loop
     loop-holds
-    mul-t6
-    element-copy-out-t9
-    mul-types
-    array-set-from-types
-    add-i
-    loop-less
+    (λ c. search needs)  -- mul-t6
+    (λ c. search needs)  -- element-copy-out-t9
+    (λ c. search needs)  -- mul-types
+    (λ c. search needs)  -- array-set-from-types
+    (λ c. search needs)  -- add-i
+    (λ c. search needs)  -- loop-less
     loop-again
     returns)

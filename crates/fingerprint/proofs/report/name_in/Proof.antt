@@ -8,12 +8,14 @@ returns : tie.Need-returns
 unfolding nameIn
 returns c = rw (lt-ltb (c .before .before .args .body .length) 5 (c .if1 .taken))
 
-add-t3 : tie.Need-add-t3
-add-t3 c = search needs
-
 returns-2 : tie.Need-returns-2
 unfolding nameIn
 returns-2 c = rw (le-ltb (c .before .before .before .before .args .body .length) 5 (c .before .before .if1 .left))
 
 pub name-in-spec : {M : Type 1} → statement M
-name-in-spec = tie.close (tie.spec returns add-t3 returns-2)
+name-in-spec =
+    tie.close
+    (tie.spec
+    returns
+    (λ c. search needs)  -- add-t3
+    returns-2)

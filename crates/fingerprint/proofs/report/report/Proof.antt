@@ -13,16 +13,10 @@ use borrow.Author.Needs.{needs}
 use Rattle.fingerprint.proofs.report.report.Statement.{statement}
 use Rattle.fingerprint.proofs.report.report.Tie as tie
 
-part-requires : tie.Need-part-requires
-part-requires c κs = search needs
-
 words-in-requires : tie.Need-words-in-requires
 words-in-requires c κs =
     let s = (c .before .before .before) in
     rw (c .part .ensures) (omega (arith, length-part-of (s .args .hello .now) (s .args .suites) (s .pre .suites-inside), s .pre .suites-few))
-
-array-copy-out-part : tie.Need-array-copy-out-part
-array-copy-out-part c = search needs
 
 part-requires-2 : tie.Need-part-requires-2
 part-requires-2 c κs = (c .before .before .before .before .before .pre .inside) groups
@@ -30,17 +24,11 @@ part-requires-2 c κs = (c .before .before .before .before .before .pre .inside)
 group-list-requires : tie.Need-group-list-requires
 group-list-requires c κs = rw (c .part2 .ensures) (good-groups (c .before .before .before .before .before .before .pre))
 
-array-copy-out-part-2 : tie.Need-array-copy-out-part-2
-array-copy-out-part-2 c = search needs
-
 part-requires-3 : tie.Need-part-requires-3
 part-requires-3 c κs = (c .before .before .before .before .before .before .before .before .pre .inside) shares
 
 key-share-groups-requires : tie.Need-key-share-groups-requires
 key-share-groups-requires c κs = rw (c .part3 .ensures) (good-shares (c .before .before .before .before .before .before .before .before .before .pre))
-
-array-copy-out-part-3 : tie.Need-array-copy-out-part-3
-array-copy-out-part-3 c = search needs
 
 part-requires-4 : tie.Need-part-requires-4
 part-requires-4 c κs = (c .before .before .before .before .before .before .before .before .before .before .before .pre .inside) algorithms
@@ -48,17 +36,11 @@ part-requires-4 c κs = (c .before .before .before .before .before .before .befo
 word-list-requires : tie.Need-word-list-requires
 word-list-requires c κs = rw (c .part4 .ensures) (omega arith, omega arith, good-algorithms (c .before .before .before .before .before .before .before .before .before .before .before .before .pre))
 
-array-copy-out-part-4 : tie.Need-array-copy-out-part-4
-array-copy-out-part-4 c = search needs
-
 part-requires-5 : tie.Need-part-requires-5
 part-requires-5 c κs = (c .before .before .before .before .before .before .before .before .before .before .before .before .before .before .pre .inside) versions
 
 word-list-requires-2 : tie.Need-word-list-requires-2
 word-list-requires-2 c κs = rw (c .part5 .ensures) (omega arith, omega arith, good-versions (c .before .before .before .before .before .before .before .before .before .before .before .before .before .before .before .pre))
-
-array-copy-out-at-protocols : tie.Need-array-copy-out-at-protocols
-array-copy-out-at-protocols c = search needs
 
 part-requires-6 : tie.Need-part-requires-6
 part-requires-6 c κs = (c .before .before .before .before .before .before .before .before .before .before .before .before .before .before .before .before .before .pre .inside) protocols
@@ -70,9 +52,6 @@ protocol-names-requires c κs =
 
 ext-types-requires : tie.Need-ext-types-requires
 ext-types-requires c κs = omega (arith, c .before .before .before .before .before .before .before .before .before .before .before .before .before .before .before .before .before .before .before .before .before .before .before .before .before .before .good)
-
-array-copy-out-name-in : tie.Need-array-copy-out-name-in
-array-copy-out-name-in c = search needs
 
 name-in-requires : tie.Need-name-in-requires
 name-in-requires c κs =
@@ -113,24 +92,24 @@ pub report-spec : {M : Type 1} → statement M
 report-spec =
     tie.close
     (tie.spec
-    part-requires
+    (λ c κs. search needs)  -- part-requires
     words-in-requires
-    array-copy-out-part
+    (λ c. search needs)  -- array-copy-out-part
     part-requires-2
     group-list-requires
-    array-copy-out-part-2
+    (λ c. search needs)  -- array-copy-out-part-2
     part-requires-3
     key-share-groups-requires
-    array-copy-out-part-3
+    (λ c. search needs)  -- array-copy-out-part-3
     part-requires-4
     word-list-requires
-    array-copy-out-part-4
+    (λ c. search needs)  -- array-copy-out-part-4
     part-requires-5
     word-list-requires-2
-    array-copy-out-at-protocols
+    (λ c. search needs)  -- array-copy-out-at-protocols
     part-requires-6
     protocol-names-requires
     ext-types-requires
-    array-copy-out-name-in
+    (λ c. search needs)  -- array-copy-out-name-in
     name-in-requires
     returns)

@@ -11,48 +11,6 @@ use borrow.Author.Needs.{needs}
 use Rattle.fingerprint.proofs.walk.ask_body.Statement.{statement}
 use Rattle.fingerprint.proofs.walk.ask_body.Tie as tie
 
-ask-name-requires : tie.Need-ask-name-requires
-ask-name-requires c κs = search needs
-
-without-ids-requires : tie.Need-without-ids-requires
-without-ids-requires c κs = search needs
-
-ask-words-requires : tie.Need-ask-words-requires
-ask-words-requires c κs = search needs
-
-without-ids-requires-2 : tie.Need-without-ids-requires-2
-without-ids-requires-2 c κs = search needs
-
-ask-words-requires-2 : tie.Need-ask-words-requires-2
-ask-words-requires-2 c κs = search needs
-
-without-ids-requires-3 : tie.Need-without-ids-requires-3
-without-ids-requires-3 c κs = search needs
-
-ask-protocols-requires : tie.Need-ask-protocols-requires
-ask-protocols-requires c κs = search needs
-
-without-ids-requires-4 : tie.Need-without-ids-requires-4
-without-ids-requires-4 c κs = search needs
-
-ask-words-requires-3 : tie.Need-ask-words-requires-3
-ask-words-requires-3 c κs = search needs
-
-without-ids-requires-5 : tie.Need-without-ids-requires-5
-without-ids-requires-5 c κs = search needs
-
-ask-shares-requires : tie.Need-ask-shares-requires
-ask-shares-requires c κs = search needs
-
-without-ids-requires-6 : tie.Need-without-ids-requires-6
-without-ids-requires-6 c κs = search needs
-
-ask-parameters-requires : tie.Need-ask-parameters-requires
-ask-parameters-requires c κs = search needs
-
-without-ids-requires-7 : tie.Need-without-ids-requires-7
-without-ids-requires-7 c κs = search needs
-
 returns : tie.Need-returns
 returns c =
     let args = c .before .before .before .before .args in
@@ -107,20 +65,20 @@ pub ask-body-spec : {M : Type 1} → statement M
 ask-body-spec =
     tie.close
     (tie.spec
-    ask-name-requires
-    without-ids-requires
-    ask-words-requires
-    without-ids-requires-2
-    ask-words-requires-2
-    without-ids-requires-3
-    ask-protocols-requires
-    without-ids-requires-4
-    ask-words-requires-3
-    without-ids-requires-5
-    ask-shares-requires
-    without-ids-requires-6
-    ask-parameters-requires
-    without-ids-requires-7
+    (λ c κs. search needs)  -- ask-name-requires
+    (λ c κs. search needs)  -- without-ids-requires
+    (λ c κs. search needs)  -- ask-words-requires
+    (λ c κs. search needs)  -- without-ids-requires-2
+    (λ c κs. search needs)  -- ask-words-requires-2
+    (λ c κs. search needs)  -- without-ids-requires-3
+    (λ c κs. search needs)  -- ask-protocols-requires
+    (λ c κs. search needs)  -- without-ids-requires-4
+    (λ c κs. search needs)  -- ask-words-requires-3
+    (λ c κs. search needs)  -- without-ids-requires-5
+    (λ c κs. search needs)  -- ask-shares-requires
+    (λ c κs. search needs)  -- without-ids-requires-6
+    (λ c κs. search needs)  -- ask-parameters-requires
+    (λ c κs. search needs)  -- without-ids-requires-7
     returns
     returns-2
     returns-3

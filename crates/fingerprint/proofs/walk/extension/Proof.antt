@@ -53,12 +53,6 @@ body-asked c =
     subst (λ (k : Kind). BodyAsked k (take (given .1 .1 .0 - given .1 .0) (drop (given .1 .0) (now (args .hello)))) (c .ask-body .result) (now (args .ids)) (c .ask-body .last .1 .1 .0))
     (ap kindAt (c .before .before .before .slot .ensures) ∙ kind-at-slot (kind (given .0))) (c .ask-body .ensures)
 
-read-header-requires : tie.Need-read-header-requires
-read-header-requires c κs = search needs
-
-enum-known-t : tie.Need-enum-known-t
-enum-known-t c = search needs
-
 enum-told : tie.Need-enum-told
 enum-told c = search needs
 
@@ -68,16 +62,10 @@ returns c =
     let cut = subst (λ (x : Header). HeaderAs x (now (args .hello)) (args .at)) (c .enum-told .given .1) (c .before .before .read-header .ensures) in
     (λ done e. step-cut done (drop (args .at) (now (args .hello))) cut, (omega arith, omega arith))
 
-is-known-requires : tie.Need-is-known-requires
-is-known-requires c κs = search needs
-
 returns-2 : tie.Need-returns-2
 returns-2 c =
     let told = c .before .before in
     (step-known (found told) (types told) (sym (c .before .is-known .ensures) ∙ c .if1 .taken), (omega arith, omega arith))
-
-slot-requires : tie.Need-slot-requires
-slot-requires c κs = search needs
 
 sub-ask-body : tie.Need-sub-ask-body
 sub-ask-body c = (found (c .before .before .before)) .forward
@@ -87,9 +75,6 @@ part-ask-body-start c = (found (c .before .before .before)) .forward
 
 part-ask-body-end : tie.Need-part-ask-body-end
 part-ask-body-end c = (found (c .before .before .before)) .inside
-
-ask-body-requires : tie.Need-ask-body-requires
-ask-body-requires c κs = search needs
 
 returns-3 : tie.Need-returns-3
 returns-3 c =
@@ -122,17 +107,17 @@ pub extension-spec : {M : Type 1} → statement M
 extension-spec =
     tie.close
     (tie.spec
-    read-header-requires
-    enum-known-t
+    (λ c κs. search needs)  -- read-header-requires
+    (λ c. search needs)  -- enum-known-t
     enum-told
     returns
-    is-known-requires
+    (λ c κs. search needs)  -- is-known-requires
     returns-2
-    slot-requires
+    (λ c κs. search needs)  -- slot-requires
     sub-ask-body
     part-ask-body-start
     part-ask-body-end
-    ask-body-requires
+    (λ c κs. search needs)  -- ask-body-requires
     returns-3
     returns-4
     returns-5)

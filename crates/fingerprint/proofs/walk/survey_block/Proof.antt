@@ -52,17 +52,11 @@ extension-requires c κs =
     let w = c .before .before .before .before .loop .inv in
     (w .inside, c .before .before .before .before .before .before .pre .1, omega (arith, w .count-is, w .few), types-long w, w .marks-long, types-marked w, w .ids-long)
 
-enum-known-t : tie.Need-enum-known-t Inv-loop μ-loop
-enum-known-t c = search needs
-
 mul-types : tie.Need-mul-types Inv-loop μ-loop
 mul-types c = omega (arith, room c)
 
 element-write-types : tie.Need-element-write-types Inv-loop μ-loop
 element-write-types c = omega (arith, room c, types-long (c .before .before .before .before .before .before .before .before .loop .inv))
-
-mark-requires : tie.Need-mark-requires Inv-loop μ-loop
-mark-requires c κs = search needs
 
 array-write-marks : tie.Need-array-write-marks Inv-loop μ-loop
 array-write-marks c = omega (arith, c .mark .ensures)
@@ -95,12 +89,6 @@ loop-again c =
     let s = found (c .before) in
     walking-next w (c .mark .ensures) (λ i. c .before .before .before .before .before .before .before .before .before .before .shared-slice-known .given i .fits) (c .before .before .before .before .before .before .before .before .loop-test .taken) (s .0) (s .1)
 
-enum-known-number : tie.Need-enum-known-number Inv-loop μ-loop
-enum-known-number c = search needs
-
-refused-requires : tie.Need-refused-requires Inv-loop μ-loop
-refused-requires c κs = search needs
-
 returns : tie.Need-returns Inv-loop μ-loop
 returns c =
     let h = now (c .before .before .before .before .before .before .before .before .before .before .before .args .hello) in
@@ -131,10 +119,10 @@ survey-block-spec =
     μ-loop
     loop-holds
     extension-requires
-    enum-known-t
+    (λ c. search needs)  -- enum-known-t
     mul-types
     element-write-types
-    mark-requires
+    (λ c κs. search needs)  -- mark-requires
     array-write-marks
     sub-t23
     mul-bodies
@@ -143,7 +131,7 @@ survey-block-spec =
     add-id-count
     loop-less
     loop-again
-    enum-known-number
-    refused-requires
+    (λ c. search needs)  -- enum-known-number
+    (λ c κs. search needs)  -- refused-requires
     returns
     returns-2)

@@ -52,21 +52,6 @@ loop-holds c =
     let args = c .before .args in
     (zero-le, zero-le, ap (λ (l : List ℕ). member (args .id) l) (ids-start (now (args .body)) (args .k)))
 
-sub-one-parameter : tie.Need-sub-one-parameter Inv-loop μ-loop
-sub-one-parameter c = search needs
-
-part-one-parameter-start : tie.Need-part-one-parameter-start Inv-loop μ-loop
-part-one-parameter-start c = search needs
-
-part-one-parameter-end : tie.Need-part-one-parameter-end Inv-loop μ-loop
-part-one-parameter-end c = search needs
-
-one-parameter-requires : tie.Need-one-parameter-requires Inv-loop μ-loop
-one-parameter-requires c κs = search needs
-
-enum-known-other : tie.Need-enum-known-other Inv-loop μ-loop
-enum-known-other c = search needs
-
 enum-told : tie.Need-enum-told Inv-loop μ-loop
 enum-told c = search needs
 
@@ -88,12 +73,6 @@ returns-2 c =
 
 add-at : tie.Need-add-at Inv-loop μ-loop
 add-at c = omega (arith, fits (c .before))
-
-add-i : tie.Need-add-i Inv-loop μ-loop
-add-i c = search needs
-
-loop-less : tie.Need-loop-less Inv-loop μ-loop
-loop-less c = search needs
 
 loop-again : tie.Need-loop-again Inv-loop μ-loop
 loop-again c =
@@ -119,16 +98,16 @@ among-first-spec =
     Inv-loop
     μ-loop
     loop-holds
-    sub-one-parameter
-    part-one-parameter-start
-    part-one-parameter-end
-    one-parameter-requires
-    enum-known-other
+    (λ c. search needs)  -- sub-one-parameter
+    (λ c. search needs)  -- part-one-parameter-start
+    (λ c. search needs)  -- part-one-parameter-end
+    (λ c κs. search needs)  -- one-parameter-requires
+    (λ c. search needs)  -- enum-known-other
     enum-told
     returns
     returns-2
     add-at
-    add-i
-    loop-less
+    (λ c. search needs)  -- add-i
+    (λ c. search needs)  -- loop-less
     loop-again
     returns-3)

@@ -13,36 +13,12 @@ use borrow.Author.Needs.{needs}
 use Rattle.fingerprint_stops.proofs.body.broken_at.Statement.{statement}
 use Rattle.fingerprint_stops.proofs.body.broken_at.Tie as tie
 
-list-at-requires : tie.Need-list-at-requires
-list-at-requires c κs = search needs
-
-passed-over-requires : tie.Need-passed-over-requires
-passed-over-requires c κs = search needs
-
 returns : tie.Need-returns
 returns c =
     let args = c .before .before .before .before .args in
     let width = c .before .before .list-at in
     let is = broken-list (kindAt (args .place)) (now (args .body)) (width .result) (width .ensures .0) (c .before .if1 .taken) in
     (c .passed-over .ensures .0 ∙ is, c .passed-over .ensures .1)
-
-is-whole-requires : tie.Need-is-whole-requires
-is-whole-requires c κs = search needs
-
-sub-passed-over : tie.Need-sub-passed-over
-sub-passed-over c = search needs
-
-part-passed-over-start : tie.Need-part-passed-over-start
-part-passed-over-start c = search needs
-
-part-passed-over-end : tie.Need-part-passed-over-end
-part-passed-over-end c = search needs
-
-passed-over-requires-2 : tie.Need-passed-over-requires-2
-passed-over-requires-2 c κs = search needs
-
-add-result : tie.Need-add-result
-add-result c = search needs
 
 returns-2 : tie.Need-returns-2
 returns-2 c =
@@ -77,15 +53,15 @@ pub broken-at-spec : {M : Type 1} → statement M
 broken-at-spec =
     tie.close
     (tie.spec
-    list-at-requires
-    passed-over-requires
+    (λ c κs. search needs)  -- list-at-requires
+    (λ c κs. search needs)  -- passed-over-requires
     returns
-    is-whole-requires
-    sub-passed-over
-    part-passed-over-start
-    part-passed-over-end
-    passed-over-requires-2
-    add-result
+    (λ c κs. search needs)  -- is-whole-requires
+    (λ c. search needs)  -- sub-passed-over
+    (λ c. search needs)  -- part-passed-over-start
+    (λ c. search needs)  -- part-passed-over-end
+    (λ c κs. search needs)  -- passed-over-requires-2
+    (λ c. search needs)  -- add-result
     returns-2
     returns-3
     returns-4)

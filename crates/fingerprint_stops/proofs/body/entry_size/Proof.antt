@@ -38,44 +38,11 @@ parameter-found c =
     let args = c .before .before .before .before .before .before .args in
     subst (λ (x : Parameter). ParameterAs x (now (args .rest))) (c .before .used2 .given .1) (c .before .before .before .one-parameter .ensures)
 
-word-size-requires : tie.Need-word-size-requires
-word-size-requires c κs = search needs
-
-word-size-requires-2 : tie.Need-word-size-requires-2
-word-size-requires-2 c κs = search needs
-
-one-name-requires : tie.Need-one-name-requires
-one-name-requires c κs = search needs
-
-enum-known-length : tie.Need-enum-known-length
-enum-known-length c = search needs
-
 add-result : tie.Need-add-result
 add-result c = omega (arith, name-found c .within)
 
 enum-told : tie.Need-enum-told
 enum-told c = search needs
-
-word-size-requires-3 : tie.Need-word-size-requires-3
-word-size-requires-3 c κs = search needs
-
-one-share-requires : tie.Need-one-share-requires
-one-share-requires c κs = search needs
-
-enum-known-used : tie.Need-enum-known-used
-enum-known-used c = search needs
-
-enum-told-2 : tie.Need-enum-told-2
-enum-told-2 c = search needs
-
-one-parameter-requires : tie.Need-one-parameter-requires
-one-parameter-requires c κs = search needs
-
-enum-known-used-2 : tie.Need-enum-known-used-2
-enum-known-used-2 c = search needs
-
-enum-told-3 : tie.Need-enum-told-3
-enum-told-3 c = search needs
 
 returns : tie.Need-returns
 returns c =
@@ -144,19 +111,19 @@ pub entry-size-spec : {M : Type 1} → statement M
 entry-size-spec =
     tie.close
     (tie.spec
-    word-size-requires
-    word-size-requires-2
-    one-name-requires
-    enum-known-length
+    (λ c κs. search needs)  -- word-size-requires
+    (λ c κs. search needs)  -- word-size-requires-2
+    (λ c κs. search needs)  -- one-name-requires
+    (λ c. search needs)  -- enum-known-length
     add-result
     enum-told
-    word-size-requires-3
-    one-share-requires
-    enum-known-used
-    enum-told-2
-    one-parameter-requires
-    enum-known-used-2
-    enum-told-3
+    (λ c κs. search needs)  -- word-size-requires-3
+    (λ c κs. search needs)  -- one-share-requires
+    (λ c. search needs)  -- enum-known-used
+    (λ c. search needs)  -- enum-told-2
+    (λ c κs. search needs)  -- one-parameter-requires
+    (λ c. search needs)  -- enum-known-used-2
+    (λ c. search needs)  -- enum-told-3
     returns
     returns-2
     returns-3

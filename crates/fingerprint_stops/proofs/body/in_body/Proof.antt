@@ -24,30 +24,6 @@ number-is c = c .ask-body .ensures .is ∙ ap (λ (k : Kind). asked k (now (c .b
 returns : tie.Need-returns
 returns c = place-empty (kind (c .before .before .args .t)) (now (c .before .before .args .body)) (c .if1 .taken)
 
-slot-requires : tie.Need-slot-requires
-slot-requires c κs = search needs
-
-ask-body-requires : tie.Need-ask-body-requires
-ask-body-requires c κs = search needs
-
-broken-at-requires : tie.Need-broken-at-requires
-broken-at-requires c κs = search needs
-
-add-result : tie.Need-add-result
-add-result c = search needs
-
-repeated-at-requires : tie.Need-repeated-at-requires
-repeated-at-requires c κs = search needs
-
-add-result-2 : tie.Need-add-result-2
-add-result-2 c = search needs
-
-past-count-requires : tie.Need-past-count-requires
-past-count-requires c κs = search needs
-
-add-result-3 : tie.Need-add-result-3
-add-result-3 c = search needs
-
 returns-2 : tie.Need-returns-2
 returns-2 c =
     let args = c .before .before .before .before .before .before .args in
@@ -84,14 +60,14 @@ in-body-spec =
     tie.close
     (tie.spec
     returns
-    slot-requires
-    ask-body-requires
-    broken-at-requires
-    add-result
-    repeated-at-requires
-    add-result-2
-    past-count-requires
-    add-result-3
+    (λ c κs. search needs)  -- slot-requires
+    (λ c κs. search needs)  -- ask-body-requires
+    (λ c κs. search needs)  -- broken-at-requires
+    (λ c. search needs)  -- add-result
+    (λ c κs. search needs)  -- repeated-at-requires
+    (λ c. search needs)  -- add-result-2
+    (λ c κs. search needs)  -- past-count-requires
+    (λ c. search needs)  -- add-result-3
     returns-2
     returns-3
     returns-4

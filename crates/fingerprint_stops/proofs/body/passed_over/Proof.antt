@@ -42,18 +42,6 @@ fits c =
 loop-holds : tie.Need-loop-holds Inv-loop μ-loop
 loop-holds c = (zero-le, zero-le, passed-start (kindAt (c .before .args .place)) (now (c .before .args .list)) (c .before .args .n))
 
-sub-entry-size : tie.Need-sub-entry-size Inv-loop μ-loop
-sub-entry-size c = search needs
-
-part-entry-size-start : tie.Need-part-entry-size-start Inv-loop μ-loop
-part-entry-size-start c = search needs
-
-part-entry-size-end : tie.Need-part-entry-size-end Inv-loop μ-loop
-part-entry-size-end c = search needs
-
-entry-size-requires : tie.Need-entry-size-requires Inv-loop μ-loop
-entry-size-requires c κs = search needs
-
 returns : tie.Need-returns Inv-loop μ-loop
 returns c =
     let args = c .before .before .before .before .before .before .args in
@@ -64,12 +52,6 @@ returns c =
 
 add-at : tie.Need-add-at Inv-loop μ-loop
 add-at c = omega (arith, fits (c .before))
-
-add-k : tie.Need-add-k Inv-loop μ-loop
-add-k c = search needs
-
-loop-less : tie.Need-loop-less Inv-loop μ-loop
-loop-less c = search needs
 
 loop-again : tie.Need-loop-again Inv-loop μ-loop
 loop-again c =
@@ -93,13 +75,13 @@ passed-over-spec =
     Inv-loop
     μ-loop
     loop-holds
-    sub-entry-size
-    part-entry-size-start
-    part-entry-size-end
-    entry-size-requires
+    (λ c. search needs)  -- sub-entry-size
+    (λ c. search needs)  -- part-entry-size-start
+    (λ c. search needs)  -- part-entry-size-end
+    (λ c κs. search needs)  -- entry-size-requires
     returns
     add-at
-    add-k
-    loop-less
+    (λ c. search needs)  -- add-k
+    (λ c. search needs)  -- loop-less
     loop-again
     returns-2)

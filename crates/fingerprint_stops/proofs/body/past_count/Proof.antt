@@ -12,32 +12,11 @@ use borrow.Author.Needs.{needs}
 use Rattle.fingerprint_stops.proofs.body.past_count.Statement.{statement}
 use Rattle.fingerprint_stops.proofs.body.past_count.Tie as tie
 
-list-at-requires : tie.Need-list-at-requires
-list-at-requires c κs = search needs
-
 returns : tie.Need-returns
 returns c =
     let args = c .before .before .before .args in
     let width = c .before .list-at in
     (past-short (kindAt (args .place)) (now (args .body)) (width .result) (width .ensures .0) (c .if1 .taken), omega (arith, width .ensures .1))
-
-sub-passed-over : tie.Need-sub-passed-over
-sub-passed-over c = search needs
-
-part-passed-over-start : tie.Need-part-passed-over-start
-part-passed-over-start c = search needs
-
-part-passed-over-end : tie.Need-part-passed-over-end
-part-passed-over-end c = search needs
-
-most-at-requires : tie.Need-most-at-requires
-most-at-requires c κs = search needs
-
-passed-over-requires : tie.Need-passed-over-requires
-passed-over-requires c κs = search needs
-
-add-result : tie.Need-add-result
-add-result c = search needs
 
 returns-2 : tie.Need-returns-2
 returns-2 c =
@@ -54,12 +33,12 @@ pub past-count-spec : {M : Type 1} → statement M
 past-count-spec =
     tie.close
     (tie.spec
-    list-at-requires
+    (λ c κs. search needs)  -- list-at-requires
     returns
-    sub-passed-over
-    part-passed-over-start
-    part-passed-over-end
-    most-at-requires
-    passed-over-requires
-    add-result
+    (λ c. search needs)  -- sub-passed-over
+    (λ c. search needs)  -- part-passed-over-start
+    (λ c. search needs)  -- part-passed-over-end
+    (λ c κs. search needs)  -- most-at-requires
+    (λ c κs. search needs)  -- passed-over-requires
+    (λ c. search needs)  -- add-result
     returns-2)

@@ -34,21 +34,6 @@ found c = rw (c .before .id .given .1) at (inner (c .before .before .before))
 loop-holds : tie.Need-loop-holds Inv-loop μ-loop
 loop-holds c = repeating-start (now (c .before .args .body))
 
-sub-one-parameter : tie.Need-sub-one-parameter Inv-loop μ-loop
-sub-one-parameter c = search needs
-
-part-one-parameter-start : tie.Need-part-one-parameter-start Inv-loop μ-loop
-part-one-parameter-start c = search needs
-
-part-one-parameter-end : tie.Need-part-one-parameter-end Inv-loop μ-loop
-part-one-parameter-end c = search needs
-
-one-parameter-requires : tie.Need-one-parameter-requires Inv-loop μ-loop
-one-parameter-requires c κs = search needs
-
-enum-known-id : tie.Need-enum-known-id Inv-loop μ-loop
-enum-known-id c = search needs
-
 enum-told : tie.Need-enum-told Inv-loop μ-loop
 enum-told c = search needs
 
@@ -57,9 +42,6 @@ returns c =
     let loop = c .before .before .before .before .before .loop in
     let test = c .before .before .before .before .loop-test in
     (repeating-cut (loop .inv) (test .taken) (rw (c .enum-told .given .1) at (inner (c .before .before))), loop .inv .inside)
-
-among-first-requires : tie.Need-among-first-requires Inv-loop μ-loop
-among-first-requires c κs = search needs
 
 returns-2 : tie.Need-returns-2 Inv-loop μ-loop
 returns-2 c =
@@ -101,14 +83,14 @@ repeated-at-spec =
     Inv-loop
     μ-loop
     loop-holds
-    sub-one-parameter
-    part-one-parameter-start
-    part-one-parameter-end
-    one-parameter-requires
-    enum-known-id
+    (λ c. search needs)  -- sub-one-parameter
+    (λ c. search needs)  -- part-one-parameter-start
+    (λ c. search needs)  -- part-one-parameter-end
+    (λ c κs. search needs)  -- one-parameter-requires
+    (λ c. search needs)  -- enum-known-id
     enum-told
     returns
-    among-first-requires
+    (λ c κs. search needs)  -- among-first-requires
     returns-2
     add-at
     add-k

@@ -12,13 +12,16 @@ returns c = version-cut (now (c .before .before .args .hello)) (c .if1 .taken)
 returns-2 : tie.Need-returns-2
 returns-2 c = random-cut (now (c .before .before .before .args .hello)) (c .before .if1 .left) (c .if2 .taken)
 
-session-place-requires : tie.Need-session-place-requires
-session-place-requires c κs = search needs
-
 returns-3 : tie.Need-returns-3
 returns-3 c =
     let args = c .before .before .before .before .args in
     c .session-place .ensures ∙ random-there (now (args .hello)) (c .before .before .if1 .left) (c .before .if2 .left)
 
 pub field-place-spec : {M : Type 1} → statement M
-field-place-spec = tie.close (tie.spec returns returns-2 session-place-requires returns-3)
+field-place-spec =
+    tie.close
+    (tie.spec
+    returns
+    returns-2
+    (λ c κs. search needs)  -- session-place-requires
+    returns-3)

@@ -8,9 +8,6 @@ use borrow.Author.Needs.{needs}
 use Rattle.fingerprint_stops.proofs.fields.head_place.Statement.{statement}
 use Rattle.fingerprint_stops.proofs.fields.head_place.Tie as tie
 
-field-place-requires : tie.Need-field-place-requires
-field-place-requires c κs = search needs
-
 returns : tie.Need-returns
 unfolding headPlace
 returns c = ap (λ (n : ℕ). headPlace (now (c .before .before .args .hello)) n) (sym (c .match .keys1))
@@ -30,4 +27,11 @@ returns-4 c =
     c .field-place .ensures ∙ field-there (now (args .hello)) (args .number) (o .0 .0 .1) (o .0 .1) (o .1)
 
 pub head-place-spec : {M : Type 1} → statement M
-head-place-spec = tie.close (tie.spec field-place-requires returns returns-2 returns-3 returns-4)
+head-place-spec =
+    tie.close
+    (tie.spec
+    (λ c κs. search needs)  -- field-place-requires
+    returns
+    returns-2
+    returns-3
+    returns-4)

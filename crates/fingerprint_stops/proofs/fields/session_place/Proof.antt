@@ -9,12 +9,6 @@ use Rattle.fingerprint_stops.proofs.fields.session_place.Tie as tie
 returns : tie.Need-returns
 returns c = session-short (now (c .before .before .args .hello)) (c .if1 .taken)
 
-shared-slice-read-wide : tie.Need-shared-slice-read-wide
-shared-slice-read-wide c = search needs
-
-wide-requires : tie.Need-wide-requires
-wide-requires c κs = search needs
-
 returns-2 : tie.Need-returns-2
 returns-2 c =
     let args = c .before .before .before .before .before .args in
@@ -24,12 +18,6 @@ returns-3 : tie.Need-returns-3
 returns-3 c =
     let args = c .before .before .before .before .before .before .args in
     session-cut (now (args .hello)) (search needs) (c .before .before .wide .result) (c .before .before .wide .ensures .0) (c .if3 .taken)
-
-add-suites-place : tie.Need-add-suites-place
-add-suites-place c = search needs
-
-suites-place-requires : tie.Need-suites-place-requires
-suites-place-requires c κs = search needs
 
 returns-4 : tie.Need-returns-4
 returns-4 c =
@@ -42,10 +30,10 @@ session-place-spec =
     tie.close
     (tie.spec
     returns
-    shared-slice-read-wide
-    wide-requires
+    (λ c. search needs)  -- shared-slice-read-wide
+    (λ c κs. search needs)  -- wide-requires
     returns-2
     returns-3
-    add-suites-place
-    suites-place-requires
+    (λ c. search needs)  -- add-suites-place
+    (λ c κs. search needs)  -- suites-place-requires
     returns-4)

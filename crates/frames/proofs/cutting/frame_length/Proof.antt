@@ -5,21 +5,6 @@ use borrow.Author.Needs.{needs}
 use Rattle.frames.proofs.cutting.frame_length.Statement.{statement}
 use Rattle.frames.proofs.cutting.frame_length.Tie as tie
 
-varint-length-requires : tie.Need-varint-length-requires
-varint-length-requires c κs = search needs
-
-add-result : tie.Need-add-result
-add-result c = search needs
-
-varint-length-requires-2 : tie.Need-varint-length-requires-2
-varint-length-requires-2 c κs = search needs
-
-add-result-2 : tie.Need-add-result-2
-add-result-2 c = search needs
-
-add-result-3 : tie.Need-add-result-3
-add-result-3 c = search needs
-
 returns : tie.Need-returns
 returns c =
     let args = c .before .before .before .args in
@@ -29,9 +14,9 @@ pub frame-length-spec : {M : Type 1} → statement M
 frame-length-spec =
     tie.close
     (tie.spec
-    varint-length-requires
-    add-result
-    varint-length-requires-2
-    add-result-2
-    add-result-3
+    (λ c κs. search needs)  -- varint-length-requires
+    (λ c. search needs)  -- add-result
+    (λ c κs. search needs)  -- varint-length-requires-2
+    (λ c. search needs)  -- add-result-2
+    (λ c. search needs)  -- add-result-3
     returns)

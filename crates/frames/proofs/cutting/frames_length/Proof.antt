@@ -36,15 +36,6 @@ data-end-requires c κs =
     let pre = c .before .before .before .pre in
     (c .before .loop .inv .within, pre .2)
 
-sub-frame-length : tie.Need-sub-frame-length Inv-loop μ-loop
-sub-frame-length c = omega arith
-
-part-frame-length-start : tie.Need-part-frame-length-start Inv-loop μ-loop
-part-frame-length-start c = omega arith
-
-part-frame-length-end : tie.Need-part-frame-length-end Inv-loop μ-loop
-part-frame-length-end c = omega arith
-
 frame-length-requires : tie.Need-frame-length-requires Inv-loop μ-loop
 frame-length-requires c κs =
     let args = c .before .before .before .before .before .args in
@@ -57,9 +48,6 @@ add-n : tie.Need-add-n Inv-loop μ-loop
 add-n c =
     let pre = c .before .before .before .before .before .before .pre in
     omega (arith, c .frame-length .ensures .0, next-small (frame (c .before .before)) (pre .0) (pre .2))
-
-loop-less : tie.Need-loop-less Inv-loop μ-loop
-loop-less c = omega arith
 
 loop-again : tie.Need-loop-again Inv-loop μ-loop
 loop-again c = rw (c .frame-length .ensures .0) (goes-on (frame (c .before .before)))
@@ -75,11 +63,11 @@ frames-length-spec =
     μ-loop
     loop-holds
     data-end-requires
-    sub-frame-length
-    part-frame-length-start
-    part-frame-length-end
+    (λ c. omega arith)  -- sub-frame-length
+    (λ c. omega arith)  -- part-frame-length-start
+    (λ c. omega arith)  -- part-frame-length-end
     frame-length-requires
     add-n
-    loop-less
+    (λ c. omega arith)  -- loop-less
     loop-again
     returns)

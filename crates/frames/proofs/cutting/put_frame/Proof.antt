@@ -35,9 +35,6 @@ part-put-varint-start c =
     let old = now (args .out) in
     place-within (typed at bs old (pre .2))
 
-part-put-varint-end : tie.Need-part-put-varint-end
-part-put-varint-end c = search needs
-
 put-varint-requires : tie.Need-put-varint-requires
 put-varint-requires c κs =
     let args = c .before .before .before .args in
@@ -72,9 +69,6 @@ part-put-varint-start-2 c =
     let bs = now (args .bytes) in
     let old = now (args .out) in
     place-within (offset-written at bs old (pre .2) (put-varint .ensures))
-
-part-put-varint-end-2 : tie.Need-part-put-varint-end-2
-part-put-varint-end-2 c = search needs
 
 put-varint-requires-2 : tie.Need-put-varint-requires-2
 put-varint-requires-2 c κs =
@@ -112,9 +106,6 @@ part-put-bytes-start c =
     let bs = now (args .bytes) in
     let old = now (args .out) in
     place-within (length-written at bs old (pre .2) (put-varint .ensures) (put-varint2 .ensures))
-
-part-put-bytes-end : tie.Need-part-put-bytes-end
-part-put-bytes-end c = search needs
 
 put-bytes-requires : tie.Need-put-bytes-requires
 put-bytes-requires c κs =
@@ -167,17 +158,17 @@ put-frame-spec =
     slice-write-out
     sub-put-varint
     part-put-varint-start
-    part-put-varint-end
+    (λ c. search needs)  -- part-put-varint-end
     put-varint-requires
     add-a
     sub-put-varint-2
     part-put-varint-start-2
-    part-put-varint-end-2
+    (λ c. search needs)  -- part-put-varint-end-2
     put-varint-requires-2
     add-b
     sub-put-bytes
     part-put-bytes-start
-    part-put-bytes-end
+    (λ c. search needs)  -- part-put-bytes-end
     put-bytes-requires
     add-result
     same-length

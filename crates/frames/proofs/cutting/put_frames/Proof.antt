@@ -52,18 +52,6 @@ part-put-frame-start c =
     let loop = c .before .before .loop in
     place-within (loop .inv .1)
 
-part-put-frame-end : tie.Need-part-put-frame-end Inv-loop μ-loop
-part-put-frame-end c = search needs
-
-sub-put-frame-2 : tie.Need-sub-put-frame-2 Inv-loop μ-loop
-sub-put-frame-2 c = omega arith
-
-part-put-frame-start-2 : tie.Need-part-put-frame-start-2 Inv-loop μ-loop
-part-put-frame-start-2 c = omega arith
-
-part-put-frame-end-2 : tie.Need-part-put-frame-end-2 Inv-loop μ-loop
-part-put-frame-end-2 c = omega arith
-
 put-frame-requires : tie.Need-put-frame-requires Inv-loop μ-loop
 put-frame-requires c κs =
     let args = c .before .before .before .before .before .before .before .args in
@@ -78,9 +66,6 @@ add-n c =
     let put-frame = c .before .before .put-frame in
     let pre = c .before .before .before .before .before .before .before .before .before .before .pre in
     omega (arith, put-frame .ensures .count, next-small (frame (c .before .before .before .before .before)) (pre .0) (pre .2))
-
-loop-less : tie.Need-loop-less Inv-loop μ-loop
-loop-less c = omega arith
 
 loop-again : tie.Need-loop-again Inv-loop μ-loop
 loop-again c =
@@ -110,13 +95,13 @@ put-frames-spec =
     data-end-requires
     sub-put-frame
     part-put-frame-start
-    part-put-frame-end
-    sub-put-frame-2
-    part-put-frame-start-2
-    part-put-frame-end-2
+    (λ c. search needs)  -- part-put-frame-end
+    (λ c. omega arith)  -- sub-put-frame-2
+    (λ c. omega arith)  -- part-put-frame-start-2
+    (λ c. omega arith)  -- part-put-frame-end-2
     put-frame-requires
     add-n
-    loop-less
+    (λ c. omega arith)  -- loop-less
     loop-again
     same-length
     returns)

@@ -22,9 +22,6 @@ returns-3 c =
     let if1 = c .before .before .if1 in
     refuses-hello (args .c) (now (args .hello)) (now (args .out)) (if1 .left) (c .before .if2 .left) (c .if3 .taken)
 
-frames-length-requires : tie.Need-frames-length-requires
-frames-length-requires c κs = search needs
-
 returns-4 : tie.Need-returns-4
 returns-4 c =
     let args = c .before .before .before .before .before .before .before .args in
@@ -32,12 +29,6 @@ returns-4 c =
     let if2 = c .before .before .before .if2 in
     let if3 = c .before .before .if3 in
     refuses-room (args .c) (now (args .hello)) (now (args .out)) (if1 .left) (if2 .left) (if3 .left) (rw (c .before .frames-length .ensures) at (c .if4 .taken))
-
-put-frames-requires : tie.Need-put-frames-requires
-put-frames-requires c κs = search needs
-
-same-length : tie.Need-same-length
-same-length c = search needs
 
 returns-5 : tie.Need-returns-5
 returns-5 c =
@@ -58,8 +49,8 @@ write-frames-spec =
     returns
     returns-2
     returns-3
-    frames-length-requires
+    (λ c κs. search needs)  -- frames-length-requires
     returns-4
-    put-frames-requires
-    same-length
+    (λ c κs. search needs)  -- put-frames-requires
+    (λ c. search needs)  -- same-length
     returns-5)

@@ -22,21 +22,6 @@ loop-holds : tie.Need-loop-holds Inv-loop μ-loop
 unfolding each
 loop-holds c = (omega arith, refl)
 
-shared-slice-read-good : tie.Need-shared-slice-read-good Inv-loop μ-loop
-shared-slice-read-good c = omega arith
-
-shared-slice-read-good-2 : tie.Need-shared-slice-read-good-2 Inv-loop μ-loop
-shared-slice-read-good-2 c = omega arith
-
-shared-slice-read-good-3 : tie.Need-shared-slice-read-good-3 Inv-loop μ-loop
-shared-slice-read-good-3 c = omega arith
-
-add-i : tie.Need-add-i Inv-loop μ-loop
-add-i c = omega arith
-
-loop-less : tie.Need-loop-less Inv-loop μ-loop
-loop-less c = omega arith
-
 loop-again : tie.Need-loop-again Inv-loop μ-loop
 loop-again c =
     let l = c .before .before .before .before .loop in
@@ -57,10 +42,10 @@ agrees-spec =
     Inv-loop
     μ-loop
     loop-holds
-    shared-slice-read-good
-    shared-slice-read-good-2
-    shared-slice-read-good-3
-    add-i
-    loop-less
+    (λ c. omega arith)  -- shared-slice-read-good
+    (λ c. omega arith)  -- shared-slice-read-good-2
+    (λ c. omega arith)  -- shared-slice-read-good-3
+    (λ c. omega arith)  -- add-i
+    (λ c. omega arith)  -- loop-less
     loop-again
     returns)

@@ -73,15 +73,6 @@ loop-holds c =
     let start = c .before .before .before in
     starts (now (start .args .frames)) (now (start .args .out)) (now (start .args .marks)) (start .pre .2) (start .pre .3)
 
-sub-join-frame : tie.Need-sub-join-frame Inv-loop μ-loop
-sub-join-frame c = omega arith
-
-part-join-frame-start : tie.Need-part-join-frame-start Inv-loop μ-loop
-part-join-frame-start c = search needs
-
-part-join-frame-end : tie.Need-part-join-frame-end Inv-loop μ-loop
-part-join-frame-end c = search needs
-
 join-frame-requires : tie.Need-join-frame-requires Inv-loop μ-loop
 join-frame-requires c κs =
     let pre = c .before .before .before .before .before .before .before .before .pre in
@@ -105,9 +96,6 @@ part-padding-start c = omega (arith, within (c .before))
 
 part-padding-end : tie.Need-part-padding-end Inv-loop μ-loop
 part-padding-end c = omega (arith, within (c .before))
-
-padding-requires : tie.Need-padding-requires Inv-loop μ-loop
-padding-requires c κs = search needs
 
 add-at-2 : tie.Need-add-at-2 Inv-loop μ-loop
 add-at-2 c =
@@ -156,18 +144,6 @@ returns c =
     let s = rw (part-to-end (now (args .frames)) (loop .at), c .before .n .given .1) at (join-frame .ensures) in
     stops (loop .inv) (loop-test .taken) s
 
-sub-all-marked : tie.Need-sub-all-marked Inv-loop μ-loop
-sub-all-marked c = omega arith
-
-part-all-marked-start : tie.Need-part-all-marked-start Inv-loop μ-loop
-part-all-marked-start c = search needs
-
-part-all-marked-end : tie.Need-part-all-marked-end Inv-loop μ-loop
-part-all-marked-end c = search needs
-
-all-marked-requires : tie.Need-all-marked-requires Inv-loop μ-loop
-all-marked-requires c κs = search needs
-
 same-length-3 : tie.Need-same-length-3 Inv-loop μ-loop
 same-length-3 c =
     let loop = c .before .before .before .before .before .loop in
@@ -209,16 +185,16 @@ join-all-spec =
     Inv-loop
     μ-loop
     loop-holds
-    sub-join-frame
-    part-join-frame-start
-    part-join-frame-end
+    (λ c. omega arith)  -- sub-join-frame
+    (λ c. search needs)  -- part-join-frame-start
+    (λ c. search needs)  -- part-join-frame-end
     join-frame-requires
     enum-known-used
     add-at
     sub-padding
     part-padding-start
     part-padding-end
-    padding-requires
+    (λ c κs. search needs)  -- padding-requires
     add-at-2
     loop-less
     loop-again
@@ -228,10 +204,10 @@ join-all-spec =
     same-length
     same-length-2
     returns
-    sub-all-marked
-    part-all-marked-start
-    part-all-marked-end
-    all-marked-requires
+    (λ c. omega arith)  -- sub-all-marked
+    (λ c. search needs)  -- part-all-marked-start
+    (λ c. search needs)  -- part-all-marked-end
+    (λ c κs. search needs)  -- all-marked-requires
     same-length-3
     same-length-4
     returns-2

@@ -10,25 +10,10 @@ use borrow.Author.Needs.{needs}
 use Rattle.frames.proofs.joining.join_onto.Statement.{statement}
 use Rattle.frames.proofs.joining.join_onto.Tie as tie
 
-has-room-requires : tie.Need-has-room-requires
-has-room-requires c κs = search needs
-
-same-length : tie.Need-same-length
-same-length c = search needs
-
-same-length-2 : tie.Need-same-length-2
-same-length-2 c = search needs
-
 returns : tie.Need-returns
 returns c =
     let has-room = c .before .has-room in
     no-room (sym (has-room .ensures) ∙ not-true (has-room .result) (c .if1 .taken))
-
-fill-requires : tie.Need-fill-requires
-fill-requires c κs = search needs
-
-fill-requires-2 : tie.Need-fill-requires-2
-fill-requires-2 c κs = search needs
 
 join-all-requires : tie.Need-join-all-requires
 join-all-requires c κs =
@@ -40,24 +25,6 @@ join-all-requires c κs =
     let within = within-room (now (args .out)) (now (args .marks)) (sym (has-room .ensures) ∙ not-false (has-room .result) (if1 .left)) in
     (omega (arith, fill .kept .0, within .0), omega (arith, fill2 .kept .0, within .1), fill .ensures ∙ ap (λ (n : ℕ). replicate n 0) (sym (fill .kept .0)), fill2 .ensures ∙ ap (λ (n : ℕ). replicate n 0) (sym (fill2 .kept .0)))
 
-enum-known-end : tie.Need-enum-known-end
-enum-known-end c = search needs
-
-enum-known-n : tie.Need-enum-known-n
-enum-known-n c = search needs
-
-fill-requires-3 : tie.Need-fill-requires-3
-fill-requires-3 c κs = search needs
-
-fill-requires-4 : tie.Need-fill-requires-4
-fill-requires-4 c κs = search needs
-
-same-length-3 : tie.Need-same-length-3
-same-length-3 c = search needs
-
-same-length-4 : tie.Need-same-length-4
-same-length-4 c = search needs
-
 returns-2 : tie.Need-returns-2
 returns-2 c =
     let has-room = c .before .before .before .before .before .before .before .before .before .before .before .before .before .before .before .before .before .before .before .has-room in
@@ -66,12 +33,6 @@ returns-2 c =
     let fill2 = c .before .before .before .before .before .before .before .before .before .before .before .before .fill2 in
     let join-all = c .before .before .before .before .before .before .before .join-all in
     joined-whole (sym (has-room .ensures) ∙ not-false (has-room .result) (if1 .left)) (fill .kept .0) (fill2 .kept .0) (rw (c .before .end .given .1) at (join-all .ensures))
-
-same-length-5 : tie.Need-same-length-5
-same-length-5 c = search needs
-
-same-length-6 : tie.Need-same-length-6
-same-length-6 c = search needs
 
 returns-3 : tie.Need-returns-3
 returns-3 c =
@@ -89,20 +50,20 @@ pub join-onto-spec : {M : Type 1} → statement M
 join-onto-spec =
     tie.close
     (tie.spec
-    has-room-requires
-    same-length
-    same-length-2
+    (λ c κs. search needs)  -- has-room-requires
+    (λ c. search needs)  -- same-length
+    (λ c. search needs)  -- same-length-2
     returns
-    fill-requires
-    fill-requires-2
+    (λ c κs. search needs)  -- fill-requires
+    (λ c κs. search needs)  -- fill-requires-2
     join-all-requires
-    enum-known-end
-    enum-known-n
-    fill-requires-3
-    fill-requires-4
-    same-length-3
-    same-length-4
+    (λ c. search needs)  -- enum-known-end
+    (λ c. search needs)  -- enum-known-n
+    (λ c κs. search needs)  -- fill-requires-3
+    (λ c κs. search needs)  -- fill-requires-4
+    (λ c. search needs)  -- same-length-3
+    (λ c. search needs)  -- same-length-4
     returns-2
-    same-length-5
-    same-length-6
+    (λ c. search needs)  -- same-length-5
+    (λ c. search needs)  -- same-length-6
     returns-3)

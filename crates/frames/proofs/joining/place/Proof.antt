@@ -13,41 +13,8 @@ use Rattle.frames.proofs.joining.place.Tie as tie
 returns : tie.Need-returns
 returns c = too-far (omega (arith, c .if1 .taken))
 
-sub-if2 : tie.Need-sub-if2
-sub-if2 c = search needs
-
 returns-2 : tie.Need-returns-2
 returns-2 c = too-far (omega (arith, c .before .if1 .left, c .if2 .taken))
-
-add-end : tie.Need-add-end
-add-end c = search needs
-
-sub-agrees : tie.Need-sub-agrees
-sub-agrees c = search needs
-
-part-agrees-start : tie.Need-part-agrees-start
-part-agrees-start c = search needs
-
-part-agrees-end : tie.Need-part-agrees-end
-part-agrees-end c = search needs
-
-sub-agrees-2 : tie.Need-sub-agrees-2
-sub-agrees-2 c = search needs
-
-part-agrees-start-2 : tie.Need-part-agrees-start-2
-part-agrees-start-2 c = search needs
-
-part-agrees-end-2 : tie.Need-part-agrees-end-2
-part-agrees-end-2 c = search needs
-
-agrees-requires : tie.Need-agrees-requires
-agrees-requires c κs = search needs
-
-same-length : tie.Need-same-length
-same-length c = search needs
-
-same-length-2 : tie.Need-same-length-2
-same-length-2 c = search needs
 
 returns-3 : tie.Need-returns-3
 returns-3 c =
@@ -56,36 +23,6 @@ returns-3 c =
     let if2 = c .before .before .before .before .before .before .if2 in
     let n = length (now (args .piece)) in
     unlike (args .offset + n - args .offset) (omega arith) (omega (arith, if1 .left, if2 .left)) (sym (c .before .agrees .ensures) ∙ not-true (c .before .agrees .result) (c .if3 .taken))
-
-sub-put-bytes : tie.Need-sub-put-bytes
-sub-put-bytes c = search needs
-
-part-put-bytes-start : tie.Need-part-put-bytes-start
-part-put-bytes-start c = search needs
-
-part-put-bytes-end : tie.Need-part-put-bytes-end
-part-put-bytes-end c = search needs
-
-put-bytes-requires : tie.Need-put-bytes-requires
-put-bytes-requires c κs = search needs
-
-sub-fill : tie.Need-sub-fill
-sub-fill c = search needs
-
-part-fill-start : tie.Need-part-fill-start
-part-fill-start c = search needs
-
-part-fill-end : tie.Need-part-fill-end
-part-fill-end c = search needs
-
-fill-requires : tie.Need-fill-requires
-fill-requires c κs = search needs
-
-same-length-3 : tie.Need-same-length-3
-same-length-3 c = search needs
-
-same-length-4 : tie.Need-same-length-4
-same-length-4 c = search needs
 
 returns-4 : tie.Need-returns-4
 returns-4 c =
@@ -103,27 +40,27 @@ place-spec =
     tie.close
     (tie.spec
     returns
-    sub-if2
+    (λ c. search needs)  -- sub-if2
     returns-2
-    add-end
-    sub-agrees
-    part-agrees-start
-    part-agrees-end
-    sub-agrees-2
-    part-agrees-start-2
-    part-agrees-end-2
-    agrees-requires
-    same-length
-    same-length-2
+    (λ c. search needs)  -- add-end
+    (λ c. search needs)  -- sub-agrees
+    (λ c. search needs)  -- part-agrees-start
+    (λ c. search needs)  -- part-agrees-end
+    (λ c. search needs)  -- sub-agrees-2
+    (λ c. search needs)  -- part-agrees-start-2
+    (λ c. search needs)  -- part-agrees-end-2
+    (λ c κs. search needs)  -- agrees-requires
+    (λ c. search needs)  -- same-length
+    (λ c. search needs)  -- same-length-2
     returns-3
-    sub-put-bytes
-    part-put-bytes-start
-    part-put-bytes-end
-    put-bytes-requires
-    sub-fill
-    part-fill-start
-    part-fill-end
-    fill-requires
-    same-length-3
-    same-length-4
+    (λ c. search needs)  -- sub-put-bytes
+    (λ c. search needs)  -- part-put-bytes-start
+    (λ c. search needs)  -- part-put-bytes-end
+    (λ c κs. search needs)  -- put-bytes-requires
+    (λ c. search needs)  -- sub-fill
+    (λ c. search needs)  -- part-fill-start
+    (λ c. search needs)  -- part-fill-end
+    (λ c κs. search needs)  -- fill-requires
+    (λ c. search needs)  -- same-length-3
+    (λ c. search needs)  -- same-length-4
     returns-4)

@@ -43,21 +43,6 @@ length-within c =
     let earlier = c .before .before .before .before .before .before in
     within-length (now (start .args .input)) _ (offset-found earlier) _ (length-found c) (start .pre)
 
-sub-read : tie.Need-sub-read
-sub-read c = search needs
-
-part-read-start : tie.Need-part-read-start
-part-read-start c = search needs
-
-part-read-end : tie.Need-part-read-end
-part-read-end c = search needs
-
-read-requires : tie.Need-read-requires
-read-requires c κs = search needs
-
-enum-known-offset : tie.Need-enum-known-offset
-enum-known-offset c = search needs
-
 enum-told : tie.Need-enum-told
 enum-told c = search needs
 
@@ -74,18 +59,6 @@ sub-read-2 c = offset-within (c .before .before)
 
 part-read-start-2 : tie.Need-part-read-start-2
 part-read-start-2 c = omega (arith, offset-within (c .before .before))
-
-part-read-end-2 : tie.Need-part-read-end-2
-part-read-end-2 c = search needs
-
-read-requires-2 : tie.Need-read-requires-2
-read-requires-2 c κs = search needs
-
-enum-known-length : tie.Need-enum-known-length
-enum-known-length c = search needs
-
-enum-told-2 : tie.Need-enum-told-2
-enum-told-2 c = search needs
 
 returns-2 : tie.Need-returns-2
 returns-2 c =
@@ -122,20 +95,20 @@ pub read-crypto-spec : {M : Type 1} → statement M
 read-crypto-spec =
     tie.close
     (tie.spec
-    sub-read
-    part-read-start
-    part-read-end
-    read-requires
-    enum-known-offset
+    (λ c. search needs)  -- sub-read
+    (λ c. search needs)  -- part-read-start
+    (λ c. search needs)  -- part-read-end
+    (λ c κs. search needs)  -- read-requires
+    (λ c. search needs)  -- enum-known-offset
     enum-told
     returns
     add-a
     sub-read-2
     part-read-start-2
-    part-read-end-2
-    read-requires-2
-    enum-known-length
-    enum-told-2
+    (λ c. search needs)  -- part-read-end-2
+    (λ c κs. search needs)  -- read-requires-2
+    (λ c. search needs)  -- enum-known-length
+    (λ c. search needs)  -- enum-told-2
     returns-2
     add-start
     sub-if1

@@ -9,12 +9,6 @@ use Rattle.frames.proofs.reading.read_frame.Tie as tie
 returns : tie.Need-returns
 returns c = no-frame (now (c .before .before .args .input)) (c .if1 .taken)
 
-shared-slice-read-match : tie.Need-shared-slice-read-match
-shared-slice-read-match c = search needs
-
-read-crypto-requires : tie.Need-read-crypto-requires
-read-crypto-requires c κs = search needs
-
 returns-2 : tie.Need-returns-2
 returns-2 c =
     let args = c .before .before .before .before .args in
@@ -40,8 +34,8 @@ read-frame-spec =
     tie.close
     (tie.spec
     returns
-    shared-slice-read-match
-    read-crypto-requires
+    (λ c. search needs)  -- shared-slice-read-match
+    (λ c κs. search needs)  -- read-crypto-requires
     returns-2
     returns-3
     returns-4

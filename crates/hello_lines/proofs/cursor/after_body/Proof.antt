@@ -7,11 +7,13 @@ use Rattle.hello_lines.proofs.cursor.after_body.Tie as tie
 returns : tie.Need-returns
 returns c = simp (lt-ltb _ _ (c .if1 .taken))
 
-in-hello-requires : tie.Need-in-hello-requires
-in-hello-requires c κs = search needs
-
 returns-2 : tie.Need-returns-2
 returns-2 c = rw (le-ltb _ _ (c .before .if1 .left)) (c .in-hello .ensures)
 
 pub after-body-spec : {M : Type 1} → statement M
-after-body-spec = tie.close (tie.spec returns in-hello-requires returns-2)
+after-body-spec =
+    tie.close
+    (tie.spec
+    returns
+    (λ c κs. search needs)  -- in-hello-requires
+    returns-2)

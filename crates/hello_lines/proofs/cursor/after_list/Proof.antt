@@ -7,11 +7,13 @@ use Rattle.hello_lines.proofs.cursor.after_list.Tie as tie
 returns : tie.Need-returns
 returns c = simp (lt-ltb _ _ (c .if1 .taken))
 
-after-body-requires : tie.Need-after-body-requires
-after-body-requires c κs = search needs
-
 returns-2 : tie.Need-returns-2
 returns-2 c = rw (le-ltb _ _ (c .before .if1 .left)) (c .after-body .ensures)
 
 pub after-list-spec : {M : Type 1} → statement M
-after-list-spec = tie.close (tie.spec returns after-body-requires returns-2)
+after-list-spec =
+    tie.close
+    (tie.spec
+    returns
+    (λ c κs. search needs)  -- after-body-requires
+    returns-2)

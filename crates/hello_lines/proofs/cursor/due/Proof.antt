@@ -7,16 +7,10 @@ use borrow.Author.Needs.{needs}
 use Rattle.hello_lines.proofs.cursor.due.Statement.{statement}
 use Rattle.hello_lines.proofs.cursor.due.Tie as tie
 
-shared-slice-read-if2 : tie.Need-shared-slice-read-if2
-shared-slice-read-if2 c = search needs
-
 returns : tie.Need-returns
 returns c =
     let args = c .before .before .before .before .before .args in
     due-none (now (args .hello)) (args .c) (c .before .before .if1 .taken) (c .if2 .taken)
-
-column-requires : tie.Need-column-requires
-column-requires c κs = search needs
 
 returns-2 : tie.Need-returns-2
 returns-2 c =
@@ -26,4 +20,10 @@ returns-2 c =
     ∙ ⊎-elim (λ j. due-hello h (args .c) (j .0 .taken) (j .2 .left)) (λ j. due-other h (args .c) (j .left)) (c .before .if1 .came)
 
 pub due-spec : {M : Type 1} → statement M
-due-spec = tie.close (tie.spec shared-slice-read-if2 returns column-requires returns-2)
+due-spec =
+    tie.close
+    (tie.spec
+    (λ c. search needs)  -- shared-slice-read-if2
+    returns
+    (λ c κs. search needs)  -- column-requires
+    returns-2)

@@ -8,27 +8,12 @@ use borrow.Author.Needs.{needs}
 use Rattle.hello_lines.proofs.cursor.inside.Statement.{statement}
 use Rattle.hello_lines.proofs.cursor.inside.Tie as tie
 
-sub-be16 : tie.Need-sub-be16
-sub-be16 c = search needs
-
-part-be16-start : tie.Need-part-be16-start
-part-be16-start c = search needs
-
-part-be16-end : tie.Need-part-be16-end
-part-be16-end c = search needs
-
 be16-requires : tie.Need-be16-requires
 be16-requires c κs =
     let start = c .before .before .before .before in
     let args = start .args in
     let pre = start .pre in
     type-there (now (args .hello)) (args .c) (args .line) (pre .3) (c .before .if1 .taken) (pre .2) (pre .1) (pre .0)
-
-slot-requires : tie.Need-slot-requires
-slot-requires c κs = search needs
-
-body-line-requires : tie.Need-body-line-requires
-body-line-requires c κs = search needs
 
 returns : tie.Need-returns
 returns c =
@@ -38,16 +23,10 @@ returns c =
     ∙ ap bodyLine (c .before .slot .ensures)
     ∙ inside-extension (now (args .hello)) (args .c) (args .line) (at-type .before .before .if1 .taken) _ (at-type .be16 .ensures)
 
-sub-if3 : tie.Need-sub-if3
-sub-if3 c = search needs
-
 returns-2 : tie.Need-returns-2
 returns-2 c =
     let args = c .before .before .before .before .before .before .before .before .args in
     inside-suites (now (args .hello)) (args .c) (args .line) (c .before .before .before .if2 .taken) (c .if3 .taken)
-
-column-requires : tie.Need-column-requires
-column-requires c κs = search needs
 
 returns-3 : tie.Need-returns-3
 returns-3 c =
@@ -61,14 +40,14 @@ pub inside-spec : {M : Type 1} → statement M
 inside-spec =
     tie.close
     (tie.spec
-    sub-be16
-    part-be16-start
-    part-be16-end
+    (λ c. search needs)  -- sub-be16
+    (λ c. search needs)  -- part-be16-start
+    (λ c. search needs)  -- part-be16-end
     be16-requires
-    slot-requires
-    body-line-requires
+    (λ c κs. search needs)  -- slot-requires
+    (λ c κs. search needs)  -- body-line-requires
     returns
-    sub-if3
+    (λ c. search needs)  -- sub-if3
     returns-2
-    column-requires
+    (λ c κs. search needs)  -- column-requires
     returns-3)

@@ -21,9 +21,6 @@ within c =
     let start = c .before .before in
     rw (c .part-end .ensures) (part-within (length (now (start .args .hello))) (start .args .c) (start .pre .1))
 
-part-end-requires : tie.Need-part-end-requires
-part-end-requires c κs = search needs
-
 sub-line-of : tie.Need-sub-line-of
 sub-line-of c = omega (arith, on c)
 
@@ -52,7 +49,7 @@ pub line-at-spec : {M : Type 1} → statement M
 line-at-spec =
     tie.close
     (tie.spec
-    part-end-requires
+    (λ c κs. search needs)  -- part-end-requires
     sub-line-of
     part-line-of-start
     part-line-of-end

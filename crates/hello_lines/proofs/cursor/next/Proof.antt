@@ -10,27 +10,12 @@ use borrow.Author.Needs.{needs}
 use Rattle.hello_lines.proofs.cursor.next.Statement.{statement}
 use Rattle.hello_lines.proofs.cursor.next.Tie as tie
 
-column-requires : tie.Need-column-requires
-column-requires c κs = search needs
-
-part-end-requires : tie.Need-part-end-requires
-part-end-requires c κs = search needs
-
-inner-end-requires : tie.Need-inner-end-requires
-inner-end-requires c κs = search needs
-
 inside-requires : tie.Need-inside-requires
 inside-requires c κs =
     let start = c .before .before .before .before .before .before .before in
     let pre = start .pre in
     let end = part-within (length (now (start .args .hello))) (start .args .c) (pre .1) in
     (omega (arith, pre .4 .within, end), pre .4 .front, c .before .before .if2 .taken, pre .3)
-
-opened-requires : tie.Need-opened-requires
-opened-requires c κs = search needs
-
-settle-requires : tie.Need-settle-requires
-settle-requires c κs = search needs
 
 returns : tie.Need-returns
 returns c =
@@ -45,12 +30,6 @@ returns c =
     at (c .settle .ensures) in
     next-inside (now (args .hello)) (args .c) (args .line) (start .pre .1) (start .pre .4)
     (sym (form .column .ensures) ∙ test .before .before .if1 .taken) (test .if2 .taken) _ to
-
-due-requires : tie.Need-due-requires
-due-requires c κs = search needs
-
-settle-requires-2 : tie.Need-settle-requires-2
-settle-requires-2 c κs = search needs
 
 returns-2 : tie.Need-returns-2
 returns-2 c =
@@ -67,13 +46,13 @@ pub next-spec : {M : Type 1} → statement M
 next-spec =
     tie.close
     (tie.spec
-    column-requires
-    part-end-requires
-    inner-end-requires
+    (λ c κs. search needs)  -- column-requires
+    (λ c κs. search needs)  -- part-end-requires
+    (λ c κs. search needs)  -- inner-end-requires
     inside-requires
-    opened-requires
-    settle-requires
+    (λ c κs. search needs)  -- opened-requires
+    (λ c κs. search needs)  -- settle-requires
     returns
-    due-requires
-    settle-requires-2
+    (λ c κs. search needs)  -- due-requires
+    (λ c κs. search needs)  -- settle-requires-2
     returns-2)

@@ -8,54 +8,15 @@ use borrow.Author.Needs.{needs}
 use Rattle.hello_lines.proofs.cursor.number.Statement.{statement}
 use Rattle.hello_lines.proofs.cursor.number.Tie as tie
 
-shared-slice-read-wide : tie.Need-shared-slice-read-wide
-shared-slice-read-wide c = search needs
-
-wide-requires : tie.Need-wide-requires
-wide-requires c κs = search needs
-
 returns : tie.Need-returns
 returns c =
     let s = now (c .before .before .before .before .args .bytes) in
     (c .wide .ensures .0 ∙ one-byte s (c .before .before .if1 .taken), omega (arith, c .wide .ensures .1))
 
-be16-requires : tie.Need-be16-requires
-be16-requires c κs = search needs
-
-cast-result : tie.Need-cast-result
-cast-result c = search needs
-
 returns-2 : tie.Need-returns-2
 returns-2 c =
     let s = now (c .before .before .before .before .args .bytes) in
     (c .be16 .ensures ∙ two-bytes s (c .before .if2 .taken), search needs)
-
-shared-slice-read-wide-2 : tie.Need-shared-slice-read-wide-2
-shared-slice-read-wide-2 c = search needs
-
-wide-requires-2 : tie.Need-wide-requires-2
-wide-requires-2 c κs = search needs
-
-mul-result : tie.Need-mul-result
-mul-result c = search needs
-
-sub-be16 : tie.Need-sub-be16
-sub-be16 c = search needs
-
-part-be16-start : tie.Need-part-be16-start
-part-be16-start c = search needs
-
-part-be16-end : tie.Need-part-be16-end
-part-be16-end c = search needs
-
-be16-requires-2 : tie.Need-be16-requires-2
-be16-requires-2 c κs = search needs
-
-cast-result-2 : tie.Need-cast-result-2
-cast-result-2 c = search needs
-
-add-result : tie.Need-add-result
-add-result c = search needs
 
 returns-3 : tie.Need-returns-3
 returns-3 c =
@@ -73,20 +34,20 @@ pub number-spec : {M : Type 1} → statement M
 number-spec =
     tie.close
     (tie.spec
-    shared-slice-read-wide
-    wide-requires
+    (λ c. search needs)  -- shared-slice-read-wide
+    (λ c κs. search needs)  -- wide-requires
     returns
-    be16-requires
-    cast-result
+    (λ c κs. search needs)  -- be16-requires
+    (λ c. search needs)  -- cast-result
     returns-2
-    shared-slice-read-wide-2
-    wide-requires-2
-    mul-result
-    sub-be16
-    part-be16-start
-    part-be16-end
-    be16-requires-2
-    cast-result-2
-    add-result
+    (λ c. search needs)  -- shared-slice-read-wide-2
+    (λ c κs. search needs)  -- wide-requires-2
+    (λ c. search needs)  -- mul-result
+    (λ c. search needs)  -- sub-be16
+    (λ c. search needs)  -- part-be16-start
+    (λ c. search needs)  -- part-be16-end
+    (λ c κs. search needs)  -- be16-requires-2
+    (λ c. search needs)  -- cast-result-2
+    (λ c. search needs)  -- add-result
     returns-3
     returns-4)

@@ -6,9 +6,6 @@ use borrow.Author.Needs.{needs}
 use Rattle.hello_lines.proofs.cursor.opened.Statement.{statement}
 use Rattle.hello_lines.proofs.cursor.opened.Tie as tie
 
-column-requires : tie.Need-column-requires
-column-requires c κs = search needs
-
 returns : tie.Need-returns
 unfolding opened
 returns c = sym (in-suites _ _ _ _ _ _ (sym (c .before .column .ensures) ∙ c .match .keys1))
@@ -32,4 +29,12 @@ returns-5 c =
     sym (in-none _ _ _ _ _ _ (no-part _ _ (c .before .column .ensures) (ne .0 .0 .0 .1) (ne .0 .0 .1) (ne .0 .1) (ne .1)))
 
 pub opened-spec : {M : Type 1} → statement M
-opened-spec = tie.close (tie.spec column-requires returns returns-2 returns-3 returns-4 returns-5)
+opened-spec =
+    tie.close
+    (tie.spec
+    (λ c κs. search needs)  -- column-requires
+    returns
+    returns-2
+    returns-3
+    returns-4
+    returns-5)

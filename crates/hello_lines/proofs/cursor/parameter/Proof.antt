@@ -33,15 +33,6 @@ head c =
     let args = c .before .before .before .before .before .before .before .before .before .args in
     head-within (now (args .rest)) _ (id-found (c .before .before .before .before .before)) _ (length-found c)
 
-add-end : tie.Need-add-end
-add-end c = search needs
-
-read-requires : tie.Need-read-requires
-read-requires c κs = search needs
-
-enum-known-id : tie.Need-enum-known-id
-enum-known-id c = search needs
-
 enum-told : tie.Need-enum-told
 enum-told c = search needs
 
@@ -55,18 +46,6 @@ sub-read c = (id-found (c .before)) .bounds .1
 
 part-read-start : tie.Need-part-read-start
 part-read-start c = omega (arith, (id-found (c .before)) .bounds .1)
-
-part-read-end : tie.Need-part-read-end
-part-read-end c = search needs
-
-read-requires-2 : tie.Need-read-requires-2
-read-requires-2 c κs = search needs
-
-enum-known-length : tie.Need-enum-known-length
-enum-known-length c = search needs
-
-enum-told-2 : tie.Need-enum-told-2
-enum-told-2 c = search needs
 
 returns-2 : tie.Need-returns-2
 returns-2 c =
@@ -93,17 +72,17 @@ pub parameter-spec : {M : Type 1} → statement M
 parameter-spec =
     tie.close
     (tie.spec
-    add-end
-    read-requires
-    enum-known-id
+    (λ c. search needs)  -- add-end
+    (λ c κs. search needs)  -- read-requires
+    (λ c. search needs)  -- enum-known-id
     enum-told
     returns
     sub-read
     part-read-start
-    part-read-end
-    read-requires-2
-    enum-known-length
-    enum-told-2
+    (λ c. search needs)  -- part-read-end
+    (λ c κs. search needs)  -- read-requires-2
+    (λ c. search needs)  -- enum-known-length
+    (λ c. search needs)  -- enum-told-2
     returns-2
     add-vector
     vector-requires

@@ -3,11 +3,12 @@ use borrow.Author.Needs.{needs}
 use Rattle.hello_lines.proofs.cursor.settle.Statement.{statement}
 use Rattle.hello_lines.proofs.cursor.settle.Tie as tie
 
-settled-requires : tie.Need-settled-requires
-settled-requires c κs = search needs
-
 returns : tie.Need-returns
 returns c = rw (c .settled .ensures)
 
 pub settle-spec : {M : Type 1} → statement M
-settle-spec = tie.close (tie.spec settled-requires returns)
+settle-spec =
+    tie.close
+    (tie.spec
+    (λ c κs. search needs)  -- settled-requires
+    returns)

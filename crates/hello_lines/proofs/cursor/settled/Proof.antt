@@ -25,24 +25,6 @@ hello c =
     let ne = c .match .rest in
     no-part _ _ (c .before .column .ensures) (ne .0 .0 .0 .1) (ne .0 .0 .1) (ne .0 .1) (ne .1)
 
-column-requires : tie.Need-column-requires
-column-requires c κs = search needs
-
-in-hello-requires : tie.Need-in-hello-requires
-in-hello-requires c κs = search needs
-
-after-body-requires : tie.Need-after-body-requires
-after-body-requires c κs = search needs
-
-after-body-requires-2 : tie.Need-after-body-requires-2
-after-body-requires-2 c κs = search needs
-
-after-list-requires : tie.Need-after-list-requires
-after-list-requires c κs = search needs
-
-in-hello-requires-2 : tie.Need-in-hello-requires-2
-in-hello-requires-2 c κs = search needs
-
 returns : tie.Need-returns
 unfolding settled
 returns c = rw (in-suites _ _ _ _ _ _ (suites (c .before .before)), lt-ltb _ _ (c .if1 .taken))
@@ -79,12 +61,12 @@ pub settled-spec : {M : Type 1} → statement M
 settled-spec =
     tie.close
     (tie.spec
-    column-requires
-    in-hello-requires
-    after-body-requires
-    after-body-requires-2
-    after-list-requires
-    in-hello-requires-2
+    (λ c κs. search needs)  -- column-requires
+    (λ c κs. search needs)  -- in-hello-requires
+    (λ c κs. search needs)  -- after-body-requires
+    (λ c κs. search needs)  -- after-body-requires-2
+    (λ c κs. search needs)  -- after-list-requires
+    (λ c κs. search needs)  -- in-hello-requires-2
     returns
     returns-2
     returns-3

@@ -7,9 +7,6 @@ use borrow.Author.Needs.{needs}
 use Rattle.hello_lines.proofs.cursor.start.Statement.{statement}
 use Rattle.hello_lines.proofs.cursor.start.Tie as tie
 
-settle-requires : tie.Need-settle-requires
-settle-requires c κs = search needs
-
 returns : tie.Need-returns
 unfolding start
 returns c =
@@ -17,4 +14,8 @@ returns c =
     (e, rw e (start-ready (now (c .before .before .args .hello))), rw e refl)
 
 pub start-spec : {M : Type 1} → statement M
-start-spec = tie.close (tie.spec settle-requires returns)
+start-spec =
+    tie.close
+    (tie.spec
+    (λ c κs. search needs)  -- settle-requires
+    returns)

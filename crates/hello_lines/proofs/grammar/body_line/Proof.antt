@@ -5,12 +5,6 @@ use borrow.Author.Needs.{needs}
 use Rattle.hello_lines.proofs.grammar.body_line.Statement.{statement}
 use Rattle.hello_lines.proofs.grammar.body_line.Tie as tie
 
-mul-result : tie.Need-mul-result
-mul-result c = search needs
-
-add-result : tie.Need-add-result
-add-result c = search needs
-
 returns : tie.Need-returns
 unfolding bodyLine
 returns c = simp (lt-ltb _ _ (c .if1 .taken))
@@ -20,4 +14,10 @@ unfolding bodyLine
 returns-2 c = simp (le-ltb _ _ (c .if1 .left))
 
 pub body-line-spec : {M : Type 1} → statement M
-body-line-spec = tie.close (tie.spec mul-result add-result returns returns-2)
+body-line-spec =
+    tie.close
+    (tie.spec
+    (λ c. search needs)  -- mul-result
+    (λ c. search needs)  -- add-result
+    returns
+    returns-2)

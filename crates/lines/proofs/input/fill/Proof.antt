@@ -4,9 +4,6 @@ use borrow.Author.Needs.{needs}
 use Rattle.lines.proofs.input.fill.Statement.{statement}
 use Rattle.lines.proofs.input.fill.Tie as tie
 
-end-requires : tie.Need-end-requires
-end-requires c κs = search needs
-
 returns : tie.Need-returns
 returns c = rw (c .end .ensures, eq-eqb (c .before .before .args .n) 0 (c .before .if1 .taken))
 
@@ -14,4 +11,4 @@ returns-2 : tie.Need-returns-2
 returns-2 c = rw (ne-eqb (c .before .args .n) 0 (c .if1 .left))
 
 pub fill-spec : {M : Type 1} → statement M
-fill-spec = tie.close (tie.spec end-requires returns returns-2)
+fill-spec = tie.close (tie.spec (λ c κs. search needs) returns returns-2)

@@ -4,9 +4,6 @@ use borrow.Author.Needs.{needs}
 use Rattle.lines.proofs.input.pass.Statement.{statement}
 use Rattle.lines.proofs.input.pass.Tie as tie
 
-add-t4 : tie.Need-add-t4
-add-t4 c = search needs
-
 returns : tie.Need-returns
 returns c = rw (lt-ltb (c .before .before .args .place) (c .before .before .args .s .end) (c .if1 .taken))
 
@@ -14,4 +11,4 @@ returns-2 : tie.Need-returns-2
 returns-2 c = rw (le-ltb (c .before .before .args .place) (c .before .before .args .s .end) (c .if1 .left))
 
 pub pass-spec : {M : Type 1} → statement M
-pass-spec = tie.close (tie.spec add-t4 returns returns-2)
+pass-spec = tie.close (tie.spec (λ c. search needs) returns returns-2)

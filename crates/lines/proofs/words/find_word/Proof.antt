@@ -14,9 +14,6 @@ abbrev μ-loop : tie.MeasureT-loop
 μ-loop line k start₀ end₀ left₀ start end left =
     left
 
-find-requires : tie.Need-find-requires Inv-loop μ-loop
-find-requires c κs = search needs
-
 loop-holds : tie.Need-loop-holds Inv-loop μ-loop
 loop-holds c = starts (now (c .before .before .args .line)) (c .before .before .args .k) (c .find .result) (c .find .ensures)
 
@@ -26,18 +23,6 @@ returns c =
     let loop = c .before .before .loop in
     let loop-test = c .before .loop-test in
     misses (now (args .line)) (args .k) (loop .start) (loop .end) (loop .left) (loop .inv) (loop-test .taken) (c .if1 .taken)
-
-add-start : tie.Need-add-start Inv-loop μ-loop
-add-start c = omega arith
-
-find-requires-2 : tie.Need-find-requires-2 Inv-loop μ-loop
-find-requires-2 c κs = search needs
-
-sub-left : tie.Need-sub-left Inv-loop μ-loop
-sub-left c = omega arith
-
-loop-less : tie.Need-loop-less Inv-loop μ-loop
-loop-less c = omega arith
 
 loop-again : tie.Need-loop-again Inv-loop μ-loop
 loop-again c =
@@ -59,12 +44,12 @@ find-word-spec =
     (tie.spec
     Inv-loop
     μ-loop
-    find-requires
+    (λ c κs. search needs)
     loop-holds
     returns
-    add-start
-    find-requires-2
-    sub-left
-    loop-less
+    (λ c. omega arith)  -- add-start
+    (λ c κs. search needs)
+    (λ c. omega arith)  -- sub-left
+    (λ c. omega arith)  -- loop-less
     loop-again
     returns-2)

@@ -14,12 +14,6 @@ bounds : (c : tie.After-known-told) →
     Inside (length (now (args .line))) (the-word.At (start .given .0 .0) (start .given .0 .1 .0))
 bounds c = rw (c .before .start .given .1) at (c .before .before .before .find-word .ensures .inside)
 
-find-word-requires : tie.Need-find-word-requires
-find-word-requires c κs = search needs
-
-enum-known-start : tie.Need-enum-known-start
-enum-known-start c = search needs
-
 sub-result : tie.Need-sub-result
 sub-result c = bounds c .0
 
@@ -28,18 +22,6 @@ part-result-start c = omega (arith, bounds c)
 
 part-result-end : tie.Need-part-result-end
 part-result-end c = omega (arith, bounds c)
-
-enum-told : tie.Need-enum-told
-enum-told c = search needs
-
-sub-result-2 : tie.Need-sub-result-2
-sub-result-2 c = search needs
-
-part-result-start-2 : tie.Need-part-result-start-2
-part-result-start-2 c = search needs
-
-part-result-end-2 : tie.Need-part-result-end-2
-part-result-end-2 c = search needs
 
 returns : tie.Need-returns
 returns c = rw (← (c .before .before .before .before .find-word .ensures .is), c .before .before .start .given .1)
@@ -51,14 +33,14 @@ pub word-at-spec : {M : Type 1} → statement M
 word-at-spec =
     tie.close
     (tie.spec
-    find-word-requires
-    enum-known-start
+    (λ c κs. search needs)
+    (λ c. search needs)
     sub-result
     part-result-start
     part-result-end
-    enum-told
-    sub-result-2
-    part-result-start-2
-    part-result-end-2
+    (λ c. search needs)
+    (λ c. search needs)
+    (λ c. search needs)
+    (λ c. search needs)
     returns
     returns-2)

@@ -11,24 +11,6 @@ use borrow.Author.Needs.{needs}
 use Rattle.listing.proofs.line.put_blanks.Statement.{statement}
 use Rattle.listing.proofs.line.put_blanks.Tie as tie
 
-up-to-24-requires : tie.Need-up-to-24-requires
-up-to-24-requires c κs = search needs
-
-sub-put-text : tie.Need-sub-put-text
-sub-put-text c = search needs
-
-part-put-text-start : tie.Need-part-put-text-start
-part-put-text-start c = search needs
-
-part-put-text-end : tie.Need-part-put-text-end
-part-put-text-end c = search needs
-
-put-text-requires : tie.Need-put-text-requires
-put-text-requires c κs = search needs
-
-same-length : tie.Need-same-length
-same-length c = search needs
-
 returns : tie.Need-returns
 unfolding blanks
 returns c =
@@ -41,10 +23,10 @@ pub put-blanks-spec : {M : Type 1} → statement M
 put-blanks-spec =
     tie.close
     (tie.spec
-    up-to-24-requires
-    sub-put-text
-    part-put-text-start
-    part-put-text-end
-    put-text-requires
-    same-length
+    (λ c κs. search needs)  -- up-to-24-requires
+    (λ c. search needs)  -- sub-put-text
+    (λ c. search needs)  -- part-put-text-start
+    (λ c. search needs)  -- part-put-text-end
+    (λ c κs. search needs)  -- put-text-requires
+    (λ c. search needs)  -- same-length
     returns)

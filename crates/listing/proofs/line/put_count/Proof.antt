@@ -7,51 +7,6 @@ use borrow.Author.Needs.{needs}
 use Rattle.listing.proofs.line.put_count.Statement.{statement}
 use Rattle.listing.proofs.line.put_count.Tie as tie
 
-slice-aggregate-put-number : tie.Need-slice-aggregate-put-number
-slice-aggregate-put-number c = search needs
-
-put-number-requires : tie.Need-put-number-requires
-put-number-requires c κs = search needs
-
-sub-put-text : tie.Need-sub-put-text
-sub-put-text c = search needs
-
-part-put-text-start : tie.Need-part-put-text-start
-part-put-text-start c = search needs
-
-part-put-text-end : tie.Need-part-put-text-end
-part-put-text-end c = search needs
-
-slice-aggregate-put-text : tie.Need-slice-aggregate-put-text
-slice-aggregate-put-text c = search needs
-
-put-text-requires : tie.Need-put-text-requires
-put-text-requires c κs = search needs
-
-add-m : tie.Need-add-m
-add-m c = search needs
-
-sub-put-blanks : tie.Need-sub-put-blanks
-sub-put-blanks c = search needs
-
-part-put-blanks-start : tie.Need-part-put-blanks-start
-part-put-blanks-start c = search needs
-
-part-put-blanks-end : tie.Need-part-put-blanks-end
-part-put-blanks-end c = search needs
-
-filling-requires : tie.Need-filling-requires
-filling-requires c κs = search needs
-
-put-blanks-requires : tie.Need-put-blanks-requires
-put-blanks-requires c κs = search needs
-
-add-result : tie.Need-add-result
-add-result c = search needs
-
-same-length : tie.Need-same-length
-same-length c = search needs
-
 returns : tie.Need-returns
 unfolding countParts text
 returns c =
@@ -66,19 +21,19 @@ pub put-count-spec : {M : Type 1} → statement M
 put-count-spec =
     tie.close
     (tie.spec
-    slice-aggregate-put-number
-    put-number-requires
-    sub-put-text
-    part-put-text-start
-    part-put-text-end
-    slice-aggregate-put-text
-    put-text-requires
-    add-m
-    sub-put-blanks
-    part-put-blanks-start
-    part-put-blanks-end
-    filling-requires
-    put-blanks-requires
-    add-result
-    same-length
+    (λ c. search needs)  -- slice-aggregate-put-number
+    (λ c κs. search needs)  -- put-number-requires
+    (λ c. search needs)  -- sub-put-text
+    (λ c. search needs)  -- part-put-text-start
+    (λ c. search needs)  -- part-put-text-end
+    (λ c. search needs)  -- slice-aggregate-put-text
+    (λ c κs. search needs)  -- put-text-requires
+    (λ c. search needs)  -- add-m
+    (λ c. search needs)  -- sub-put-blanks
+    (λ c. search needs)  -- part-put-blanks-start
+    (λ c. search needs)  -- part-put-blanks-end
+    (λ c κs. search needs)  -- filling-requires
+    (λ c κs. search needs)  -- put-blanks-requires
+    (λ c. search needs)  -- add-result
+    (λ c. search needs)  -- same-length
     returns)

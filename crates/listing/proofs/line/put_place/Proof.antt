@@ -6,27 +6,6 @@ use borrow.Author.Needs.{needs}
 use Rattle.listing.proofs.line.put_place.Statement.{statement}
 use Rattle.listing.proofs.line.put_place.Tie as tie
 
-put-mark-requires : tie.Need-put-mark-requires
-put-mark-requires c κs = search needs
-
-sub-put-digits : tie.Need-sub-put-digits
-sub-put-digits c = search needs
-
-part-put-digits-start : tie.Need-part-put-digits-start
-part-put-digits-start c = search needs
-
-part-put-digits-end : tie.Need-part-put-digits-end
-part-put-digits-end c = search needs
-
-put-digits-requires : tie.Need-put-digits-requires
-put-digits-requires c κs = search needs
-
-add-result : tie.Need-add-result
-add-result c = search needs
-
-same-length : tie.Need-same-length
-same-length c = search needs
-
 returns : tie.Need-returns
 unfolding placeParts
 returns c =
@@ -38,11 +17,11 @@ pub put-place-spec : {M : Type 1} → statement M
 put-place-spec =
     tie.close
     (tie.spec
-    put-mark-requires
-    sub-put-digits
-    part-put-digits-start
-    part-put-digits-end
-    put-digits-requires
-    add-result
-    same-length
+    (λ c κs. search needs)  -- put-mark-requires
+    (λ c. search needs)  -- sub-put-digits
+    (λ c. search needs)  -- part-put-digits-start
+    (λ c. search needs)  -- part-put-digits-end
+    (λ c κs. search needs)  -- put-digits-requires
+    (λ c. search needs)  -- add-result
+    (λ c. search needs)  -- same-length
     returns)

@@ -5,27 +5,6 @@ use borrow.Author.Needs.{needs}
 use Rattle.listing.proofs.reason.put_most.Statement.{statement}
 use Rattle.listing.proofs.reason.put_most.Tie as tie
 
-put-this-requires : tie.Need-put-this-requires
-put-this-requires c κs = search needs
-
-sub-put-bound : tie.Need-sub-put-bound
-sub-put-bound c = search needs
-
-part-put-bound-start : tie.Need-part-put-bound-start
-part-put-bound-start c = search needs
-
-part-put-bound-end : tie.Need-part-put-bound-end
-part-put-bound-end c = search needs
-
-put-bound-requires : tie.Need-put-bound-requires
-put-bound-requires c κs = search needs
-
-add-result : tie.Need-add-result
-add-result c = search needs
-
-same-length : tie.Need-same-length
-same-length c = search needs
-
 returns : tie.Need-returns
 returns c =
     let first = c .before .before .before .before .before .before .put-this .ensures in
@@ -36,11 +15,11 @@ pub put-most-spec : {M : Type 1} → statement M
 put-most-spec =
     tie.close
     (tie.spec
-    put-this-requires
-    sub-put-bound
-    part-put-bound-start
-    part-put-bound-end
-    put-bound-requires
-    add-result
-    same-length
+    (λ c κs. search needs)  -- put-this-requires
+    (λ c. search needs)  -- sub-put-bound
+    (λ c. search needs)  -- part-put-bound-start
+    (λ c. search needs)  -- part-put-bound-end
+    (λ c κs. search needs)  -- put-bound-requires
+    (λ c. search needs)  -- add-result
+    (λ c. search needs)  -- same-length
     returns)

@@ -5,45 +5,6 @@ use borrow.Author.Needs.{needs}
 use Rattle.listing.proofs.reason.put_says.Statement.{statement}
 use Rattle.listing.proofs.reason.put_says.Tie as tie
 
-put-this-requires : tie.Need-put-this-requires
-put-this-requires c κs = search needs
-
-sub-put-bytes-of : tie.Need-sub-put-bytes-of
-sub-put-bytes-of c = search needs
-
-part-put-bytes-of-start : tie.Need-part-put-bytes-of-start
-part-put-bytes-of-start c = search needs
-
-part-put-bytes-of-end : tie.Need-part-put-bytes-of-end
-part-put-bytes-of-end c = search needs
-
-slice-aggregate-put-bytes-of : tie.Need-slice-aggregate-put-bytes-of
-slice-aggregate-put-bytes-of c = search needs
-
-put-bytes-of-requires : tie.Need-put-bytes-of-requires
-put-bytes-of-requires c κs = search needs
-
-add-m : tie.Need-add-m
-add-m c = search needs
-
-sub-put-left : tie.Need-sub-put-left
-sub-put-left c = search needs
-
-part-put-left-start : tie.Need-part-put-left-start
-part-put-left-start c = search needs
-
-part-put-left-end : tie.Need-part-put-left-end
-part-put-left-end c = search needs
-
-put-left-requires : tie.Need-put-left-requires
-put-left-requires c κs = search needs
-
-add-result : tie.Need-add-result
-add-result c = search needs
-
-same-length : tie.Need-same-length
-same-length c = search needs
-
 returns : tie.Need-returns
 returns c =
     let first = c .before .before .before .before .before .before .before .before .before .before .before .put-this .ensures in
@@ -56,17 +17,17 @@ pub put-says-spec : {M : Type 1} → statement M
 put-says-spec =
     tie.close
     (tie.spec
-    put-this-requires
-    sub-put-bytes-of
-    part-put-bytes-of-start
-    part-put-bytes-of-end
-    slice-aggregate-put-bytes-of
-    put-bytes-of-requires
-    add-m
-    sub-put-left
-    part-put-left-start
-    part-put-left-end
-    put-left-requires
-    add-result
-    same-length
+    (λ c κs. search needs)  -- put-this-requires
+    (λ c. search needs)  -- sub-put-bytes-of
+    (λ c. search needs)  -- part-put-bytes-of-start
+    (λ c. search needs)  -- part-put-bytes-of-end
+    (λ c. search needs)  -- slice-aggregate-put-bytes-of
+    (λ c κs. search needs)  -- put-bytes-of-requires
+    (λ c. search needs)  -- add-m
+    (λ c. search needs)  -- sub-put-left
+    (λ c. search needs)  -- part-put-left-start
+    (λ c. search needs)  -- part-put-left-end
+    (λ c κs. search needs)  -- put-left-requires
+    (λ c. search needs)  -- add-result
+    (λ c. search needs)  -- same-length
     returns)

@@ -18,40 +18,10 @@ abbrev μ-loop : tie.MeasureT-loop
 μ-loop out₀ label items count at₀ i₀ out at i =
     count - i
 
-put-text-requires : tie.Need-put-text-requires Inv-loop μ-loop
-put-text-requires c κs = search needs
-
 loop-holds : tie.Need-loop-holds Inv-loop μ-loop
 loop-holds c =
     let text = (c .before .before .put-text) in
     (zero-le, search needs, refl, grown-none (c .before .before .before .before .before .before .before .args .label .now) (text .result) (text .last .0))
-
-sub-put-id : tie.Need-sub-put-id Inv-loop μ-loop
-sub-put-id c = search needs
-
-part-put-id-start : tie.Need-part-put-id-start Inv-loop μ-loop
-part-put-id-start c = search needs
-
-part-put-id-end : tie.Need-part-put-id-end Inv-loop μ-loop
-part-put-id-end c = search needs
-
-mul-put-id : tie.Need-mul-put-id Inv-loop μ-loop
-mul-put-id c = search needs
-
-shared-slice-read-put-id : tie.Need-shared-slice-read-put-id Inv-loop μ-loop
-shared-slice-read-put-id c = search needs
-
-put-id-requires : tie.Need-put-id-requires Inv-loop μ-loop
-put-id-requires c κs = search needs
-
-add-at : tie.Need-add-at Inv-loop μ-loop
-add-at c = search needs
-
-add-i : tie.Need-add-i Inv-loop μ-loop
-add-i c = search needs
-
-loop-less : tie.Need-loop-less Inv-loop μ-loop
-loop-less c = search needs
 
 loop-again : tie.Need-loop-again Inv-loop μ-loop
 loop-again c =
@@ -66,9 +36,6 @@ loop-again c =
       grown-one (args .items .now) (l .i) 0 inside idText (args .label .now) (text .result) (l .at) (w .result) _ (text .last .0) (l .out) (w .last .0)
           (l .inv .3) refl (w .ensures),
     )
-
-same-length : tie.Need-same-length Inv-loop μ-loop
-same-length c = search needs
 
 returns : tie.Need-returns Inv-loop μ-loop
 returns c =
@@ -86,17 +53,17 @@ put-ids-spec =
     (tie.spec
     Inv-loop
     μ-loop
-    put-text-requires
+    (λ c κs. search needs)  -- put-text-requires
     loop-holds
-    sub-put-id
-    part-put-id-start
-    part-put-id-end
-    mul-put-id
-    shared-slice-read-put-id
-    put-id-requires
-    add-at
-    add-i
-    loop-less
+    (λ c. search needs)  -- sub-put-id
+    (λ c. search needs)  -- part-put-id-start
+    (λ c. search needs)  -- part-put-id-end
+    (λ c. search needs)  -- mul-put-id
+    (λ c. search needs)  -- shared-slice-read-put-id
+    (λ c κs. search needs)  -- put-id-requires
+    (λ c. search needs)  -- add-at
+    (λ c. search needs)  -- add-i
+    (λ c. search needs)  -- loop-less
     loop-again
-    same-length
+    (λ c. search needs)  -- same-length
     returns)

@@ -21,40 +21,10 @@ abbrev μ-loop : tie.MeasureT-loop
 μ-loop out₀ label count items at₀ i₀ out at i =
     count - i
 
-put-text-requires : tie.Need-put-text-requires Inv-loop μ-loop
-put-text-requires c κs = search needs
-
 loop-holds : tie.Need-loop-holds Inv-loop μ-loop
 loop-holds c =
     let text = (c .before .before .put-text) in
     (zero-le, search needs, refl, grown-none (c .before .before .before .before .before .before .args .label .now) (text .result) (text .last .0))
-
-mul-t : tie.Need-mul-t Inv-loop μ-loop
-mul-t c = search needs
-
-array-copy-out-t : tie.Need-array-copy-out-t Inv-loop μ-loop
-array-copy-out-t c = search needs
-
-sub-put-word : tie.Need-sub-put-word Inv-loop μ-loop
-sub-put-word c = search needs
-
-part-put-word-start : tie.Need-part-put-word-start Inv-loop μ-loop
-part-put-word-start c = search needs
-
-part-put-word-end : tie.Need-part-put-word-end Inv-loop μ-loop
-part-put-word-end c = search needs
-
-put-word-requires : tie.Need-put-word-requires Inv-loop μ-loop
-put-word-requires c κs = search needs
-
-add-at : tie.Need-add-at Inv-loop μ-loop
-add-at c = search needs
-
-add-i : tie.Need-add-i Inv-loop μ-loop
-add-i c = search needs
-
-loop-less : tie.Need-loop-less Inv-loop μ-loop
-loop-less c = search needs
 
 loop-again : tie.Need-loop-again Inv-loop μ-loop
 loop-again c =
@@ -69,9 +39,6 @@ loop-again c =
       grown-one (args .t3) (l .i) (extType 0) inside (λ x. wordText (typeNumber x)) (args .label .now) (text .result) (l .at) (w .result) _ (text .last .0) (l .out) (w .last .0)
           (l .inv .3) refl (w .ensures),
     )
-
-same-length : tie.Need-same-length Inv-loop μ-loop
-same-length c = search needs
 
 returns : tie.Need-returns Inv-loop μ-loop
 returns c =
@@ -89,17 +56,17 @@ put-types-spec =
     (tie.spec
     Inv-loop
     μ-loop
-    put-text-requires
+    (λ c κs. search needs)  -- put-text-requires
     loop-holds
-    mul-t
-    array-copy-out-t
-    sub-put-word
-    part-put-word-start
-    part-put-word-end
-    put-word-requires
-    add-at
-    add-i
-    loop-less
+    (λ c. search needs)  -- mul-t
+    (λ c. search needs)  -- array-copy-out-t
+    (λ c. search needs)  -- sub-put-word
+    (λ c. search needs)  -- part-put-word-start
+    (λ c. search needs)  -- part-put-word-end
+    (λ c κs. search needs)  -- put-word-requires
+    (λ c. search needs)  -- add-at
+    (λ c. search needs)  -- add-i
+    (λ c. search needs)  -- loop-less
     loop-again
-    same-length
+    (λ c. search needs)  -- same-length
     returns)

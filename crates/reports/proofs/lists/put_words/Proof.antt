@@ -18,40 +18,10 @@ abbrev μ-loop : tie.MeasureT-loop
 μ-loop out₀ label items count at₀ i₀ out at i =
     count - i
 
-put-text-requires : tie.Need-put-text-requires Inv-loop μ-loop
-put-text-requires c κs = search needs
-
 loop-holds : tie.Need-loop-holds Inv-loop μ-loop
 loop-holds c =
     let text = (c .before .before .put-text) in
     (zero-le, search needs, refl, grown-none (c .before .before .before .before .before .before .before .args .label .now) (text .result) (text .last .0))
-
-sub-put-word : tie.Need-sub-put-word Inv-loop μ-loop
-sub-put-word c = search needs
-
-part-put-word-start : tie.Need-part-put-word-start Inv-loop μ-loop
-part-put-word-start c = search needs
-
-part-put-word-end : tie.Need-part-put-word-end Inv-loop μ-loop
-part-put-word-end c = search needs
-
-mul-put-word : tie.Need-mul-put-word Inv-loop μ-loop
-mul-put-word c = search needs
-
-shared-slice-read-put-word : tie.Need-shared-slice-read-put-word Inv-loop μ-loop
-shared-slice-read-put-word c = search needs
-
-put-word-requires : tie.Need-put-word-requires Inv-loop μ-loop
-put-word-requires c κs = search needs
-
-add-at : tie.Need-add-at Inv-loop μ-loop
-add-at c = search needs
-
-add-i : tie.Need-add-i Inv-loop μ-loop
-add-i c = search needs
-
-loop-less : tie.Need-loop-less Inv-loop μ-loop
-loop-less c = search needs
 
 loop-again : tie.Need-loop-again Inv-loop μ-loop
 loop-again c =
@@ -66,9 +36,6 @@ loop-again c =
       grown-one (args .items .now) (l .i) 0 inside wordText (args .label .now) (text .result) (l .at) (w .result) _ (text .last .0) (l .out) (w .last .0)
           (l .inv .3) refl (w .ensures),
     )
-
-same-length : tie.Need-same-length Inv-loop μ-loop
-same-length c = search needs
 
 returns : tie.Need-returns Inv-loop μ-loop
 returns c =
@@ -86,17 +53,17 @@ put-words-spec =
     (tie.spec
     Inv-loop
     μ-loop
-    put-text-requires
+    (λ c κs. search needs)  -- put-text-requires
     loop-holds
-    sub-put-word
-    part-put-word-start
-    part-put-word-end
-    mul-put-word
-    shared-slice-read-put-word
-    put-word-requires
-    add-at
-    add-i
-    loop-less
+    (λ c. search needs)  -- sub-put-word
+    (λ c. search needs)  -- part-put-word-start
+    (λ c. search needs)  -- part-put-word-end
+    (λ c. search needs)  -- mul-put-word
+    (λ c. search needs)  -- shared-slice-read-put-word
+    (λ c κs. search needs)  -- put-word-requires
+    (λ c. search needs)  -- add-at
+    (λ c. search needs)  -- add-i
+    (λ c. search needs)  -- loop-less
     loop-again
-    same-length
+    (λ c. search needs)  -- same-length
     returns)

@@ -10,32 +10,11 @@ use borrow.Author.Needs.{needs}
 use Rattle.reports.proofs.names.put_name.Statement.{statement}
 use Rattle.reports.proofs.names.put_name.Tie as tie
 
-slice-aggregate-put-text : tie.Need-slice-aggregate-put-text
-slice-aggregate-put-text c = search needs
-
-put-text-requires : tie.Need-put-text-requires
-put-text-requires c κs = search needs
-
-same-length : tie.Need-same-length
-same-length c = search needs
-
 returns : tie.Need-returns
 returns c =
     let s = (c .before .before .before .before .before .before .before .before .args .name .now) in
     let put = (c .before .before .put-text) in
     written-as (dash ∷ []) (nameText s) (put .result) (c .before .before .before .before .before .before .before .before .args .out .now) (put .last .0) (name-none s (c .before .before .before .before .before .if1 .taken)) (put .ensures)
-
-all-plain-requires : tie.Need-all-plain-requires
-all-plain-requires c κs = search needs
-
-put-quoted-requires : tie.Need-put-quoted-requires
-put-quoted-requires c κs = search needs
-
-put-hex-requires : tie.Need-put-hex-requires
-put-hex-requires c κs = search needs
-
-same-length-2 : tie.Need-same-length-2
-same-length-2 c = search needs
 
 returns-2 : tie.Need-returns-2
 returns-2 c =
@@ -43,9 +22,6 @@ returns-2 c =
     let put = (c .before .before .put-quoted) in
     written-as (quoted s) (nameText s) (put .result) (c .before .before .before .before .before .before .before .before .before .args .out .now) (put .last .0)
     (name-quoted s (c .before .before .before .before .before .before .if1 .left) (sym (c .before .before .before .before .before .all-plain .ensures) ∙ (c .before .before .before .before .if2 .taken))) (put .ensures)
-
-same-length-3 : tie.Need-same-length-3
-same-length-3 c = search needs
 
 returns-3 : tie.Need-returns-3
 returns-3 c =
@@ -58,14 +34,14 @@ pub put-name-spec : {M : Type 1} → statement M
 put-name-spec =
     tie.close
     (tie.spec
-    slice-aggregate-put-text
-    put-text-requires
-    same-length
+    (λ c. search needs)  -- slice-aggregate-put-text
+    (λ c κs. search needs)  -- put-text-requires
+    (λ c. search needs)  -- same-length
     returns
-    all-plain-requires
-    put-quoted-requires
-    put-hex-requires
-    same-length-2
+    (λ c κs. search needs)  -- all-plain-requires
+    (λ c κs. search needs)  -- put-quoted-requires
+    (λ c κs. search needs)  -- put-hex-requires
+    (λ c. search needs)  -- same-length-2
     returns-2
-    same-length-3
+    (λ c. search needs)  -- same-length-3
     returns-3)

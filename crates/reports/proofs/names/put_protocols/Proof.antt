@@ -20,44 +20,17 @@ abbrev μ-loop : tie.MeasureT-loop
 μ-loop out₀ hello count spans at₀ i₀ out at i =
     count - i
 
-slice-aggregate-put-text : tie.Need-slice-aggregate-put-text Inv-loop μ-loop
-slice-aggregate-put-text c = search needs
-
-put-text-requires : tie.Need-put-text-requires Inv-loop μ-loop
-put-text-requires c κs = search needs
-
 loop-holds : tie.Need-loop-holds Inv-loop μ-loop
 unfolding each
 loop-holds c =
     let text = (c .before .before .put-text) in
     (zero-le, search needs, refl, grown-none alpnLabel (text .result) (text .last .0))
 
-mul-span : tie.Need-mul-span Inv-loop μ-loop
-mul-span c = search needs
-
 array-copy-out-span : tie.Need-array-copy-out-span Inv-loop μ-loop
 array-copy-out-span c = omega (arith, (c .before .before .before .before .before .before .before .before .before .pre .0 .long), (c .before .before .before .before .before .before .before .before .before .pre .0 .few))
 
-sub-put-range : tie.Need-sub-put-range Inv-loop μ-loop
-sub-put-range c = search needs
-
-part-put-range-start : tie.Need-part-put-range-start Inv-loop μ-loop
-part-put-range-start c = search needs
-
-part-put-range-end : tie.Need-part-put-range-end Inv-loop μ-loop
-part-put-range-end c = search needs
-
 put-range-requires : tie.Need-put-range-requires Inv-loop μ-loop
 put-range-requires c κs = (c .before .before .before .before .before .before .before .before .before .before .before .pre .1) (c .before .before .before .loop .i) (c .before .before .loop-test .taken)
-
-add-at : tie.Need-add-at Inv-loop μ-loop
-add-at c = search needs
-
-add-i : tie.Need-add-i Inv-loop μ-loop
-add-i c = search needs
-
-loop-less : tie.Need-loop-less Inv-loop μ-loop
-loop-less c = search needs
 
 loop-again : tie.Need-loop-again Inv-loop μ-loop
 loop-again c =
@@ -72,9 +45,6 @@ loop-again c =
       grown-some (args .t3) (l .i) (span 0 0) inside (spanParts (args .hello .now)) alpnLabel (text .result) (l .at) (w .result) _ (text .last .0) (l .out) (w .last .0)
           (l .inv .3) refl (w .ensures),
     )
-
-same-length : tie.Need-same-length Inv-loop μ-loop
-same-length c = search needs
 
 returns : tie.Need-returns Inv-loop μ-loop
 returns c =
@@ -91,18 +61,18 @@ put-protocols-spec =
     (tie.spec
     Inv-loop
     μ-loop
-    slice-aggregate-put-text
-    put-text-requires
+    (λ c. search needs)  -- slice-aggregate-put-text
+    (λ c κs. search needs)  -- put-text-requires
     loop-holds
-    mul-span
+    (λ c. search needs)  -- mul-span
     array-copy-out-span
-    sub-put-range
-    part-put-range-start
-    part-put-range-end
+    (λ c. search needs)  -- sub-put-range
+    (λ c. search needs)  -- part-put-range-start
+    (λ c. search needs)  -- part-put-range-end
     put-range-requires
-    add-at
-    add-i
-    loop-less
+    (λ c. search needs)  -- add-at
+    (λ c. search needs)  -- add-i
+    (λ c. search needs)  -- loop-less
     loop-again
-    same-length
+    (λ c. search needs)  -- same-length
     returns)

@@ -15,53 +15,8 @@ use Rattle.reports.proofs.names.put_quoted.Tie as tie
 returns : tie.Need-returns
 returns c = not-written (quoted (c .before .before .before .args .name .now)) (c .before .before .before .args .out .now) (omega (arith, length-quoted (c .before .before .before .args .name .now)))
 
-sub-if2 : tie.Need-sub-if2
-sub-if2 c = search needs
-
 returns-2 : tie.Need-returns-2
 returns-2 c = not-written (quoted (c .before .before .before .before .args .name .now)) (c .before .before .before .before .args .out .now) (omega (arith, length-quoted (c .before .before .before .before .args .name .now)))
-
-slice-aggregate-put-bytes : tie.Need-slice-aggregate-put-bytes
-slice-aggregate-put-bytes c = search needs
-
-put-bytes-requires : tie.Need-put-bytes-requires
-put-bytes-requires c κs = search needs
-
-sub-put-bytes : tie.Need-sub-put-bytes
-sub-put-bytes c = search needs
-
-part-put-bytes-start : tie.Need-part-put-bytes-start
-part-put-bytes-start c = search needs
-
-part-put-bytes-end : tie.Need-part-put-bytes-end
-part-put-bytes-end c = search needs
-
-put-bytes-requires-2 : tie.Need-put-bytes-requires-2
-put-bytes-requires-2 c κs = search needs
-
-add-put-bytes : tie.Need-add-put-bytes
-add-put-bytes c = search needs
-
-sub-put-bytes-2 : tie.Need-sub-put-bytes-2
-sub-put-bytes-2 c = search needs
-
-part-put-bytes-start-2 : tie.Need-part-put-bytes-start-2
-part-put-bytes-start-2 c = search needs
-
-part-put-bytes-end-2 : tie.Need-part-put-bytes-end-2
-part-put-bytes-end-2 c = search needs
-
-slice-aggregate-put-bytes-2 : tie.Need-slice-aggregate-put-bytes-2
-slice-aggregate-put-bytes-2 c = search needs
-
-put-bytes-requires-3 : tie.Need-put-bytes-requires-3
-put-bytes-requires-3 c κs = search needs
-
-add-result : tie.Need-add-result
-add-result c = search needs
-
-same-length : tie.Need-same-length
-same-length c = search needs
 
 returns-3 : tie.Need-returns-3
 unfolding quoted
@@ -80,20 +35,20 @@ put-quoted-spec =
     tie.close
     (tie.spec
     returns
-    sub-if2
+    (λ c. search needs)  -- sub-if2
     returns-2
-    slice-aggregate-put-bytes
-    put-bytes-requires
-    sub-put-bytes
-    part-put-bytes-start
-    part-put-bytes-end
-    put-bytes-requires-2
-    add-put-bytes
-    sub-put-bytes-2
-    part-put-bytes-start-2
-    part-put-bytes-end-2
-    slice-aggregate-put-bytes-2
-    put-bytes-requires-3
-    add-result
-    same-length
+    (λ c. search needs)  -- slice-aggregate-put-bytes
+    (λ c κs. search needs)  -- put-bytes-requires
+    (λ c. search needs)  -- sub-put-bytes
+    (λ c. search needs)  -- part-put-bytes-start
+    (λ c. search needs)  -- part-put-bytes-end
+    (λ c κs. search needs)  -- put-bytes-requires-2
+    (λ c. search needs)  -- add-put-bytes
+    (λ c. search needs)  -- sub-put-bytes-2
+    (λ c. search needs)  -- part-put-bytes-start-2
+    (λ c. search needs)  -- part-put-bytes-end-2
+    (λ c. search needs)  -- slice-aggregate-put-bytes-2
+    (λ c κs. search needs)  -- put-bytes-requires-3
+    (λ c. search needs)  -- add-result
+    (λ c. search needs)  -- same-length
     returns-3)

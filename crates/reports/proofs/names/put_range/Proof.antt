@@ -15,45 +15,6 @@ use borrow.Author.Needs.{needs}
 use Rattle.reports.proofs.names.put_range.Statement.{statement}
 use Rattle.reports.proofs.names.put_range.Tie as tie
 
-add-end : tie.Need-add-end
-add-end c = search needs
-
-slice-aggregate-put-two-numbers : tie.Need-slice-aggregate-put-two-numbers
-slice-aggregate-put-two-numbers c = search needs
-
-slice-aggregate-put-two-numbers-2 : tie.Need-slice-aggregate-put-two-numbers-2
-slice-aggregate-put-two-numbers-2 c = search needs
-
-put-two-numbers-requires : tie.Need-put-two-numbers-requires
-put-two-numbers-requires c κs = search needs
-
-sub-put-spaced-name : tie.Need-sub-put-spaced-name
-sub-put-spaced-name c = search needs
-
-part-put-spaced-name-start : tie.Need-part-put-spaced-name-start
-part-put-spaced-name-start c = search needs
-
-part-put-spaced-name-end : tie.Need-part-put-spaced-name-end
-part-put-spaced-name-end c = search needs
-
-sub-put-spaced-name-2 : tie.Need-sub-put-spaced-name-2
-sub-put-spaced-name-2 c = search needs
-
-part-put-spaced-name-start-2 : tie.Need-part-put-spaced-name-start-2
-part-put-spaced-name-start-2 c = search needs
-
-part-put-spaced-name-end-2 : tie.Need-part-put-spaced-name-end-2
-part-put-spaced-name-end-2 c = search needs
-
-put-spaced-name-requires : tie.Need-put-spaced-name-requires
-put-spaced-name-requires c κs = search needs
-
-add-result : tie.Need-add-result
-add-result c = search needs
-
-same-length : tie.Need-same-length
-same-length c = search needs
-
 returns : tie.Need-returns
 unfolding rangeParts
 returns c =
@@ -73,17 +34,17 @@ pub put-range-spec : {M : Type 1} → statement M
 put-range-spec =
     tie.close
     (tie.spec
-    add-end
-    slice-aggregate-put-two-numbers
-    slice-aggregate-put-two-numbers-2
-    put-two-numbers-requires
-    sub-put-spaced-name
-    part-put-spaced-name-start
-    part-put-spaced-name-end
-    sub-put-spaced-name-2
-    part-put-spaced-name-start-2
-    part-put-spaced-name-end-2
-    put-spaced-name-requires
-    add-result
-    same-length
+    (λ c. search needs)  -- add-end
+    (λ c. search needs)  -- slice-aggregate-put-two-numbers
+    (λ c. search needs)  -- slice-aggregate-put-two-numbers-2
+    (λ c κs. search needs)  -- put-two-numbers-requires
+    (λ c. search needs)  -- sub-put-spaced-name
+    (λ c. search needs)  -- part-put-spaced-name-start
+    (λ c. search needs)  -- part-put-spaced-name-end
+    (λ c. search needs)  -- sub-put-spaced-name-2
+    (λ c. search needs)  -- part-put-spaced-name-start-2
+    (λ c. search needs)  -- part-put-spaced-name-end-2
+    (λ c κs. search needs)  -- put-spaced-name-requires
+    (λ c. search needs)  -- add-result
+    (λ c. search needs)  -- same-length
     returns)

@@ -9,30 +9,6 @@ use borrow.Author.Needs.{needs}
 use Rattle.reports.proofs.names.put_spaced_name.Statement.{statement}
 use Rattle.reports.proofs.names.put_spaced_name.Tie as tie
 
-slice-aggregate-put-text : tie.Need-slice-aggregate-put-text
-slice-aggregate-put-text c = search needs
-
-put-text-requires : tie.Need-put-text-requires
-put-text-requires c κs = search needs
-
-sub-put-name : tie.Need-sub-put-name
-sub-put-name c = search needs
-
-part-put-name-start : tie.Need-part-put-name-start
-part-put-name-start c = search needs
-
-part-put-name-end : tie.Need-part-put-name-end
-part-put-name-end c = search needs
-
-put-name-requires : tie.Need-put-name-requires
-put-name-requires c κs = search needs
-
-add-result : tie.Need-add-result
-add-result c = search needs
-
-same-length : tie.Need-same-length
-same-length c = search needs
-
 returns : tie.Need-returns
 returns c =
     let s = (c .before .before .before .before .before .before .before .before .before .before .before .args .name .now) in
@@ -48,12 +24,12 @@ pub put-spaced-name-spec : {M : Type 1} → statement M
 put-spaced-name-spec =
     tie.close
     (tie.spec
-    slice-aggregate-put-text
-    put-text-requires
-    sub-put-name
-    part-put-name-start
-    part-put-name-end
-    put-name-requires
-    add-result
-    same-length
+    (λ c. search needs)  -- slice-aggregate-put-text
+    (λ c κs. search needs)  -- put-text-requires
+    (λ c. search needs)  -- sub-put-name
+    (λ c. search needs)  -- part-put-name-start
+    (λ c. search needs)  -- part-put-name-end
+    (λ c κs. search needs)  -- put-name-requires
+    (λ c. search needs)  -- add-result
+    (λ c. search needs)  -- same-length
     returns)

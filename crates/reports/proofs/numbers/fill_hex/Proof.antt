@@ -15,21 +15,6 @@ abbrev μ-loop : tie.MeasureT-loop
 loop-holds : tie.Need-loop-holds Inv-loop μ-loop
 loop-holds c = fill-start (c .before .args .v) (c .before .args .part .now)
 
-sub-k : tie.Need-sub-k Inv-loop μ-loop
-sub-k c = omega arith
-
-cast-hex-letter : tie.Need-cast-hex-letter Inv-loop μ-loop
-cast-hex-letter c = omega arith
-
-hex-letter-requires : tie.Need-hex-letter-requires Inv-loop μ-loop
-hex-letter-requires c κs = omega arith
-
-slice-write-part : tie.Need-slice-write-part Inv-loop μ-loop
-slice-write-part c = omega arith
-
-loop-less : tie.Need-loop-less Inv-loop μ-loop
-loop-less c = omega arith
-
 loop-again : tie.Need-loop-again Inv-loop μ-loop
 loop-again c = fill-next (c .before .before .before .before .args .v) (c .before .before .before .before .args .part .now) (c .before .before .loop .part) (c .before .before .loop .rest) (c .before .before .loop .k) _ (c .before .before .loop .inv) (c .before .loop-test .taken) (c .hex-letter .ensures)
 
@@ -46,11 +31,11 @@ fill-hex-spec =
     Inv-loop
     μ-loop
     loop-holds
-    sub-k
-    cast-hex-letter
-    hex-letter-requires
-    slice-write-part
-    loop-less
+    (λ c. omega arith)  -- sub-k
+    (λ c. omega arith)  -- cast-hex-letter
+    (λ c κs. omega arith)  -- hex-letter-requires
+    (λ c. omega arith)  -- slice-write-part
+    (λ c. omega arith)  -- loop-less
     loop-again
     same-length
     returns)

@@ -19,9 +19,6 @@ loop-holds c = count-start (c .args .v) (search needs)
 add-k : tie.Need-add-k Inv-loop μ-loop
 add-k c = omega (arith, (c .before .loop .inv .few))
 
-loop-less : tie.Need-loop-less Inv-loop μ-loop
-loop-less c = search needs
-
 loop-again : tie.Need-loop-again Inv-loop μ-loop
 loop-again c = count-next (c .before .before .args .v) (c .before .loop .rest) (c .before .loop .k) (c .before .loop .inv) (c .loop-test .taken)
 
@@ -29,4 +26,13 @@ returns : tie.Need-returns Inv-loop μ-loop
 returns c = (count-end (c .before .before .args .v) (c .before .loop .rest) (c .before .loop .k) (c .before .loop .inv) (c .loop-test .left), (c .before .loop .inv .few))
 
 pub hex-width-spec : {M : Type 1} → statement M
-hex-width-spec = tie.close (tie.spec Inv-loop μ-loop loop-holds add-k loop-less loop-again returns)
+hex-width-spec =
+    tie.close
+    (tie.spec
+    Inv-loop
+    μ-loop
+    loop-holds
+    add-k
+    (λ c. search needs)  -- loop-less
+    loop-again
+    returns)

@@ -16,27 +16,6 @@ returns c =
     let args = (c .before .before .args) in
     not-written (space ∷ hexDigits (args .width) (args .v)) (args .out .now) (omega (arith, length-hexDigits (args .width) (args .v)))
 
-w8-requires : tie.Need-w8-requires
-w8-requires c κs = search needs
-
-add-end : tie.Need-add-end
-add-end c = search needs
-
-sub-fill-hex : tie.Need-sub-fill-hex
-sub-fill-hex c = search needs
-
-part-fill-hex-start : tie.Need-part-fill-hex-start
-part-fill-hex-start c = search needs
-
-part-fill-hex-end : tie.Need-part-fill-hex-end
-part-fill-hex-end c = search needs
-
-fill-hex-requires : tie.Need-fill-hex-requires
-fill-hex-requires c κs = search needs
-
-same-length : tie.Need-same-length
-same-length c = search needs
-
 returns-2 : tie.Need-returns-2
 returns-2 c =
     let old = (c .before .before .before .before .before .before .before .before .before .before .args .out .now) in
@@ -53,11 +32,11 @@ put-digits-spec =
     tie.close
     (tie.spec
     returns
-    w8-requires
-    add-end
-    sub-fill-hex
-    part-fill-hex-start
-    part-fill-hex-end
-    fill-hex-requires
-    same-length
+    (λ c κs. search needs)  -- w8-requires
+    (λ c. search needs)  -- add-end
+    (λ c. search needs)  -- sub-fill-hex
+    (λ c. search needs)  -- part-fill-hex-start
+    (λ c. search needs)  -- part-fill-hex-end
+    (λ c κs. search needs)  -- fill-hex-requires
+    (λ c. search needs)  -- same-length
     returns-2)

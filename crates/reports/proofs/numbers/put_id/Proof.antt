@@ -9,15 +9,6 @@ use borrow.Author.Needs.{needs}
 use Rattle.reports.proofs.numbers.put_id.Statement.{statement}
 use Rattle.reports.proofs.numbers.put_id.Tie as tie
 
-hex-width-requires : tie.Need-hex-width-requires
-hex-width-requires c κs = search needs
-
-put-digits-requires : tie.Need-put-digits-requires
-put-digits-requires c κs = search needs
-
-same-length : tie.Need-same-length
-same-length c = search needs
-
 returns : tie.Need-returns
 unfolding idText
 returns c =
@@ -28,4 +19,10 @@ returns c =
     (ap (λ (n : ℕ). space ∷ hexDigits n v) (width .ensures .0)) (put .ensures)
 
 pub put-id-spec : {M : Type 1} → statement M
-put-id-spec = tie.close (tie.spec hex-width-requires put-digits-requires same-length returns)
+put-id-spec =
+    tie.close
+    (tie.spec
+    (λ c κs. search needs)  -- hex-width-requires
+    (λ c κs. search needs)  -- put-digits-requires
+    (λ c. search needs)  -- same-length
+    returns)

@@ -4,15 +4,14 @@ use borrow.Author.Needs.{needs}
 use Rattle.reports.proofs.numbers.put_word.Statement.{statement}
 use Rattle.reports.proofs.numbers.put_word.Tie as tie
 
-put-digits-requires : tie.Need-put-digits-requires
-put-digits-requires c κs = search needs
-
-same-length : tie.Need-same-length
-same-length c = search needs
-
 returns : tie.Need-returns
 unfolding wordText
 returns c = (c .before .before .put-digits .ensures)
 
 pub put-word-spec : {M : Type 1} → statement M
-put-word-spec = tie.close (tie.spec put-digits-requires same-length returns)
+put-word-spec =
+    tie.close
+    (tie.spec
+    (λ c κs. search needs)  -- put-digits-requires
+    (λ c. search needs)  -- same-length
+    returns)

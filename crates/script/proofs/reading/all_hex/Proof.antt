@@ -22,24 +22,12 @@ abbrev μ-loop : tie.MeasureT-loop
 loop-holds : tie.Need-loop-holds Inv-loop μ-loop
 loop-holds c = refl
 
-shared-slice-read-hex-digit : tie.Need-shared-slice-read-hex-digit Inv-loop μ-loop
-shared-slice-read-hex-digit c = search needs
-
-hex-digit-requires : tie.Need-hex-digit-requires Inv-loop μ-loop
-hex-digit-requires c κs = search needs
-
 returns : tie.Need-returns Inv-loop μ-loop
 returns c =
     let start = c .before .before .before .before .before .before in
     let loop = c .before .before .before .before .loop in
     sym (loop .inv ∙ all-fails isHex (start .args .text .now) (loop .i) (c .before .before .before .loop-test .taken)
     (hex-not (getD (start .args .text .now) (loop .i) 0) (omega (arith, c .before .hex-digit .ensures))))
-
-add-i : tie.Need-add-i Inv-loop μ-loop
-add-i c = search needs
-
-loop-less : tie.Need-loop-less Inv-loop μ-loop
-loop-less c = search needs
 
 loop-again : tie.Need-loop-again Inv-loop μ-loop
 loop-again c =
@@ -60,10 +48,10 @@ all-hex-spec =
     Inv-loop
     μ-loop
     loop-holds
-    shared-slice-read-hex-digit
-    hex-digit-requires
+    (λ c. search needs)  -- shared-slice-read-hex-digit
+    (λ c κs. search needs)  -- hex-digit-requires
     returns
-    add-i
-    loop-less
+    (λ c. search needs)  -- add-i
+    (λ c. search needs)  -- loop-less
     loop-again
     returns-2)

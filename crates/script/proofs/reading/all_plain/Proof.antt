@@ -21,9 +21,6 @@ abbrev μ-loop : tie.MeasureT-loop
 loop-holds : tie.Need-loop-holds Inv-loop μ-loop
 loop-holds c = refl
 
-shared-slice-read-b : tie.Need-shared-slice-read-b Inv-loop μ-loop
-shared-slice-read-b c = search needs
-
 returns : tie.Need-returns Inv-loop μ-loop
 returns c =
     let start = c .before .before .before .before in
@@ -45,12 +42,6 @@ returns-3 c =
     sym (loop .inv ∙ all-fails isPlain (start .args .text .now) (loop .i) (c .before .before .before .before .loop-test .taken)
     (plain-quote (getD (start .args .text .now) (loop .i) 0) (c .if3 .taken)))
 
-add-i : tie.Need-add-i Inv-loop μ-loop
-add-i c = search needs
-
-loop-less : tie.Need-loop-less Inv-loop μ-loop
-loop-less c = search needs
-
 loop-again : tie.Need-loop-again Inv-loop μ-loop
 loop-again c =
     let start = c .before .before .before .before .before .before in
@@ -70,11 +61,11 @@ all-plain-spec =
     Inv-loop
     μ-loop
     loop-holds
-    shared-slice-read-b
+    (λ c. search needs)  -- shared-slice-read-b
     returns
     returns-2
     returns-3
-    add-i
-    loop-less
+    (λ c. search needs)  -- add-i
+    (λ c. search needs)  -- loop-less
     loop-again
     returns-4)

@@ -17,9 +17,6 @@ returns-3 c =
     let start = c .before .before .before in
     digit-between (start .args .b) (c .before .if2 .left) (c .if3 .taken)
 
-sub-result : tie.Need-sub-result
-sub-result c = search needs
-
 returns-4 : tie.Need-returns-4
 returns-4 c =
     let start = c .before .before .before .before in
@@ -29,9 +26,6 @@ returns-5 : tie.Need-returns-5
 returns-5 c =
     let start = c .before .before .before .before .before in
     digit-between-2 (start .args .b) (c .before .if4 .left) (c .if5 .taken)
-
-sub-result-2 : tie.Need-sub-result-2
-sub-result-2 c = search needs
 
 returns-6 : tie.Need-returns-6
 returns-6 c =
@@ -50,9 +44,9 @@ hex-digit-spec =
     returns
     returns-2
     returns-3
-    sub-result
+    (λ c. search needs)  -- sub-result
     returns-4
     returns-5
-    sub-result-2
+    (λ c. search needs)  -- sub-result-2
     returns-6
     returns-7)

@@ -5,9 +5,6 @@ use Rattle.script.proofs.ScanLaws.{only-one, only-not}
 use Rattle.script.proofs.reading.is_only.Statement.{statement}
 use Rattle.script.proofs.reading.is_only.Tie as tie
 
-shared-slice-read-result : tie.Need-shared-slice-read-result
-shared-slice-read-result c = search needs
-
 returns : tie.Need-returns
 returns c =
     let start = c .before .before in
@@ -17,4 +14,9 @@ returns-2 : tie.Need-returns-2
 returns-2 c = sym (only-not (c .before .args .byte) (c .before .args .text .now) (c .if1 .left))
 
 pub is-only-spec : {M : Type 1} → statement M
-is-only-spec = tie.close (tie.spec shared-slice-read-result returns returns-2)
+is-only-spec =
+    tie.close
+    (tie.spec
+    (λ c. search needs)  -- shared-slice-read-result
+    returns
+    returns-2)

@@ -11,12 +11,6 @@ returns c =
     let start = c .before .before in
     end-past (start .args .operand .now) (start .args .from) (c .if1 .taken)
 
-shared-slice-read-if2 : tie.Need-shared-slice-read-if2
-shared-slice-read-if2 c = search needs
-
-find-requires : tie.Need-find-requires
-find-requires c κs = search needs
-
 returns-2 : tie.Need-returns-2
 returns-2 c =
     let start = c .before .before .before .before .before in
@@ -26,15 +20,6 @@ returns-2 c =
       least = (c .find .ensures .least);
       most = (c .find .ensures .most);
     }
-
-add-find : tie.Need-add-find
-add-find c = search needs
-
-find-requires-2 : tie.Need-find-requires-2
-find-requires-2 c κs = search needs
-
-add-result : tie.Need-add-result
-add-result c = search needs
 
 returns-3 : tie.Need-returns-3
 returns-3 c =
@@ -65,11 +50,11 @@ piece-end-spec =
     tie.close
     (tie.spec
     returns
-    shared-slice-read-if2
-    find-requires
+    (λ c. search needs)  -- shared-slice-read-if2
+    (λ c κs. search needs)  -- find-requires
     returns-2
-    add-find
-    find-requires-2
-    add-result
+    (λ c. search needs)  -- add-find
+    (λ c κs. search needs)  -- find-requires-2
+    (λ c. search needs)  -- add-result
     returns-3
     returns-4)

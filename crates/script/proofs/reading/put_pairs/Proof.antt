@@ -25,21 +25,6 @@ abbrev μ-loop : tie.MeasureT-loop
 loop-holds : tie.Need-loop-holds Inv-loop μ-loop
 loop-holds c = (omega arith, front-none _, refl)
 
-mul-hex-byte : tie.Need-mul-hex-byte Inv-loop μ-loop
-mul-hex-byte c = search needs
-
-shared-slice-read-hex-byte : tie.Need-shared-slice-read-hex-byte Inv-loop μ-loop
-shared-slice-read-hex-byte c = search needs
-
-mul-hex-byte-2 : tie.Need-mul-hex-byte-2 Inv-loop μ-loop
-mul-hex-byte-2 c = search needs
-
-add-hex-byte : tie.Need-add-hex-byte Inv-loop μ-loop
-add-hex-byte c = search needs
-
-shared-slice-read-hex-byte-2 : tie.Need-shared-slice-read-hex-byte-2 Inv-loop μ-loop
-shared-slice-read-hex-byte-2 c = search needs
-
 hex-byte-requires : tie.Need-hex-byte-requires Inv-loop μ-loop
 hex-byte-requires c κs =
     let start = c .before .before .before .before .before .before in
@@ -54,12 +39,6 @@ slice-write-out c =
     let start = c .before .before .before .before .before .before .before in
     omega (arith, length-pairs (start .args .text .now))
 
-add-i : tie.Need-add-i Inv-loop μ-loop
-add-i c = search needs
-
-loop-less : tie.Need-loop-less Inv-loop μ-loop
-loop-less c = search needs
-
 loop-again : tie.Need-loop-again Inv-loop μ-loop
 loop-again c =
     let start = c .before .before .before .before .before .before .before in
@@ -71,9 +50,6 @@ loop-again c =
           (front-more (l .i) (pairs s) (start .args .out .now) (omega (arith, length-pairs s)) (start .pre .1)),
       simp length-set (l .inv .2),
     )
-
-same-length : tie.Need-same-length Inv-loop μ-loop
-same-length c = search needs
 
 returns : tie.Need-returns Inv-loop μ-loop
 returns c =
@@ -89,15 +65,15 @@ put-pairs-spec =
     Inv-loop
     μ-loop
     loop-holds
-    mul-hex-byte
-    shared-slice-read-hex-byte
-    mul-hex-byte-2
-    add-hex-byte
-    shared-slice-read-hex-byte-2
+    (λ c. search needs)  -- mul-hex-byte
+    (λ c. search needs)  -- shared-slice-read-hex-byte
+    (λ c. search needs)  -- mul-hex-byte-2
+    (λ c. search needs)  -- add-hex-byte
+    (λ c. search needs)  -- shared-slice-read-hex-byte-2
     hex-byte-requires
     slice-write-out
-    add-i
-    loop-less
+    (λ c. search needs)  -- add-i
+    (λ c. search needs)  -- loop-less
     loop-again
-    same-length
+    (λ c. search needs)  -- same-length
     returns)

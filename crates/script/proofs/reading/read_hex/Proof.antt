@@ -22,9 +22,6 @@ returns-2 c =
     let start = c .before .before .before .before in
     read-malformed (hexOf (start .args .text .now)) (start .args .out .now) (hex-odd (start .args .text .now) (c .if2 .taken))
 
-all-hex-requires : tie.Need-all-hex-requires
-all-hex-requires c κs = search needs
-
 returns-3 : tie.Need-returns-3
 returns-3 c =
     let start = c .before .before .before .before .before .before .before in
@@ -41,9 +38,6 @@ put-pairs-requires c κs =
       omega
           (arith, length-pairs (start .args .text .now), c .before .if4 .left),
     )
-
-same-length : tie.Need-same-length
-same-length c = search needs
 
 returns-4 : tie.Need-returns-4
 returns-4 c =
@@ -69,9 +63,9 @@ read-hex-spec =
     (tie.spec
     returns
     returns-2
-    all-hex-requires
+    (λ c κs. search needs)  -- all-hex-requires
     returns-3
     put-pairs-requires
-    same-length
+    (λ c. search needs)  -- same-length
     returns-4
     returns-5)

@@ -31,9 +31,6 @@ loop-holds : tie.Need-loop-holds Inv-loop μ-loop
 unfolding number
 loop-holds c = (zero-le, omega arith, refl, refl)
 
-shared-slice-read-b : tie.Need-shared-slice-read-b Inv-loop μ-loop
-shared-slice-read-b c = search needs
-
 returns-2 : tie.Need-returns-2 Inv-loop μ-loop
 returns-2 c =
     let start = c .before .before .before .before .before .before in
@@ -49,12 +46,6 @@ returns-3 c =
     let s = start .args .text .now in
     number-bad s (sym (loop .inv .2) ∙ all-fails isDecimal s (loop .i) (c .before .before .before .loop-test .taken)
     (decimal-high (getD s (loop .i) 0) (omega (arith, c .if3 .taken))))
-
-wide-requires : tie.Need-wide-requires Inv-loop μ-loop
-wide-requires c κs = search needs
-
-sub-if4 : tie.Need-sub-if4 Inv-loop μ-loop
-sub-if4 c = search needs
 
 returns-4 : tie.Need-returns-4 Inv-loop μ-loop
 returns-4 c =
@@ -78,12 +69,6 @@ mul-v c = omega (arith, c .before .wide .ensures .1, c .if4 .left)
 
 add-v : tie.Need-add-v Inv-loop μ-loop
 add-v c = omega (arith, c .before .wide .ensures .1, c .if4 .left)
-
-add-i : tie.Need-add-i Inv-loop μ-loop
-add-i c = search needs
-
-loop-less : tie.Need-loop-less Inv-loop μ-loop
-loop-less c = search needs
 
 loop-again : tie.Need-loop-again Inv-loop μ-loop
 loop-again c =
@@ -117,15 +102,15 @@ read-number-spec =
     μ-loop
     returns
     loop-holds
-    shared-slice-read-b
+    (λ c. search needs)  -- shared-slice-read-b
     returns-2
     returns-3
-    wide-requires
-    sub-if4
+    (λ c κs. search needs)  -- wide-requires
+    (λ c. search needs)  -- sub-if4
     returns-4
     mul-v
     add-v
-    add-i
-    loop-less
+    (λ c. search needs)  -- add-i
+    (λ c. search needs)  -- loop-less
     loop-again
     returns-5)

@@ -38,9 +38,6 @@ returns c =
     read-malformed (pieceOf (start .args .text .now) (start .args .last .now)) (start .args .out .now)
     (piece-none (start .args .text .now) (start .args .last .now) (c .if1 .taken))
 
-is-only-requires : tie.Need-is-only-requires
-is-only-requires c κs = search needs
-
 returns-2 : tie.Need-returns-2
 returns-2 c =
     let start = c .before .before .before .before .before .before in
@@ -49,15 +46,6 @@ returns-2 c =
     read-as (bytes []) (pieceOf s (start .args .last .now)) (piece.Bytes 0) o o
     (piece-dash s (start .args .last .now) (sym (c .before .is-only .ensures) ∙ c .if2 .taken))
     (read-bytes [] 0 o o zero-le refl (front-none o))
-
-is-only-requires-2 : tie.Need-is-only-requires-2
-is-only-requires-2 c κs = search needs
-
-read-given-requires : tie.Need-read-given-requires
-read-given-requires c κs = search needs
-
-same-length : tie.Need-same-length
-same-length c = search needs
 
 returns-3 : tie.Need-returns-3
 returns-3 c =
@@ -70,9 +58,6 @@ returns-3 c =
     (sym (c .before .before .before .before .before .is-only2 .ensures) ∙ c .before .before .before .before .if3 .taken))
     (c .before .before .read-given .ensures)
 
-shared-slice-read-if4 : tie.Need-shared-slice-read-if4
-shared-slice-read-if4 c = search needs
-
 returns-4 : tie.Need-returns-4
 returns-4 c =
     let start = c .before .before .before .before .before .before .before .before .before .before in
@@ -81,15 +66,6 @@ returns-4 c =
     read-file (pieceOf s t) (start .args .out .now)
     (piece-file s t (no-dash (c .before .before .before .before)) (no-underscore (c .before .before))
     (some (c .before .before .before .before .before .before)) (c .if4 .taken))
-
-shared-slice-read-if5 : tie.Need-shared-slice-read-if5
-shared-slice-read-if5 c = search needs
-
-read-text-requires : tie.Need-read-text-requires
-read-text-requires c κs = search needs
-
-same-length-2 : tie.Need-same-length-2
-same-length-2 c = search needs
 
 returns-5 : tie.Need-returns-5
 returns-5 c =
@@ -103,18 +79,6 @@ returns-5 c =
     (some (c .before .before .before .before .before .before .before .before .before .before .before .before))
     (c .before .before .before .before .before .before .if4 .left) (c .before .before .before .before .if5 .taken))
     (c .before .before .read-text .ensures)
-
-find-requires : tie.Need-find-requires
-find-requires c κs = search needs
-
-read-run-requires : tie.Need-read-run-requires
-read-run-requires c κs = search needs
-
-read-hex-requires : tie.Need-read-hex-requires
-read-hex-requires c κs = search needs
-
-same-length-3 : tie.Need-same-length-3
-same-length-3 c = search needs
 
 returns-6 : tie.Need-returns-6
 returns-6 c =
@@ -131,9 +95,6 @@ returns-6 c =
     (c .before .before .before .before .before .before .before .before .if4 .left)
     (c .before .before .before .before .before .before .if5 .left) (omega (arith, e, c .before .before .before .before .if6 .taken)))
     (c .before .before .read-run .ensures)
-
-same-length-4 : tie.Need-same-length-4
-same-length-4 c = search needs
 
 returns-7 : tie.Need-returns-7
 returns-7 c =
@@ -154,22 +115,22 @@ read-piece-spec =
     tie.close
     (tie.spec
     returns
-    is-only-requires
+    (λ c κs. search needs)  -- is-only-requires
     returns-2
-    is-only-requires-2
-    read-given-requires
-    same-length
+    (λ c κs. search needs)  -- is-only-requires-2
+    (λ c κs. search needs)  -- read-given-requires
+    (λ c. search needs)  -- same-length
     returns-3
-    shared-slice-read-if4
+    (λ c. search needs)  -- shared-slice-read-if4
     returns-4
-    shared-slice-read-if5
-    read-text-requires
-    same-length-2
+    (λ c. search needs)  -- shared-slice-read-if5
+    (λ c κs. search needs)  -- read-text-requires
+    (λ c. search needs)  -- same-length-2
     returns-5
-    find-requires
-    read-run-requires
-    read-hex-requires
-    same-length-3
+    (λ c κs. search needs)  -- find-requires
+    (λ c κs. search needs)  -- read-run-requires
+    (λ c κs. search needs)  -- read-hex-requires
+    (λ c. search needs)  -- same-length-3
     returns-6
-    same-length-4
+    (λ c. search needs)  -- same-length-4
     returns-7)

@@ -17,32 +17,8 @@ slice-aggregate-read-number c =
     let start = c .before .before .before in
     sym (length-take-le (start .args .star) (start .args .text .now) (omega (arith, start .pre)))
 
-read-number-requires : tie.Need-read-number-requires
-read-number-requires c κs = search needs
-
-enum-known-count : tie.Need-enum-known-count
-enum-known-count c = search needs
-
-add-read-times : tie.Need-add-read-times
-add-read-times c = search needs
-
-sub-read-times : tie.Need-sub-read-times
-sub-read-times c = search needs
-
-part-read-times-start : tie.Need-part-read-times-start
-part-read-times-start c = search needs
-
-part-read-times-end : tie.Need-part-read-times-end
-part-read-times-end c = search needs
-
-read-times-requires : tie.Need-read-times-requires
-read-times-requires c κs = search needs
-
 enum-told : tie.Need-enum-told
 enum-told c = search needs
-
-same-length : tie.Need-same-length
-same-length c = search needs
 
 returns : tie.Need-returns
 returns c =
@@ -68,14 +44,14 @@ read-run-spec =
     tie.close
     (tie.spec
     slice-aggregate-read-number
-    read-number-requires
-    enum-known-count
-    add-read-times
-    sub-read-times
-    part-read-times-start
-    part-read-times-end
-    read-times-requires
+    (λ c κs. search needs)  -- read-number-requires
+    (λ c. search needs)  -- enum-known-count
+    (λ c. search needs)  -- add-read-times
+    (λ c. search needs)  -- sub-read-times
+    (λ c. search needs)  -- part-read-times-start
+    (λ c. search needs)  -- part-read-times-end
+    (λ c κs. search needs)  -- read-times-requires
     enum-told
-    same-length
+    (λ c. search needs)  -- same-length
     returns
     returns-2)

@@ -15,35 +15,11 @@ returns c =
     let start = c .before .before .before in
     read-malformed (textOf (start .args .text .now)) (start .args .out .now) (text-short (start .args .text .now) (c .if1 .taken))
 
-sub-close : tie.Need-sub-close
-sub-close c = search needs
-
-shared-slice-read-if2 : tie.Need-shared-slice-read-if2
-shared-slice-read-if2 c = search needs
-
 returns-2 : tie.Need-returns-2
 returns-2 c =
     let start = c .before .before .before .before .before in
     read-malformed (textOf (start .args .text .now)) (start .args .out .now)
     (text-open (start .args .text .now) (c .before .before .if1 .left) (c .if2 .taken))
-
-sub-inner : tie.Need-sub-inner
-sub-inner c = search needs
-
-part-inner-start : tie.Need-part-inner-start
-part-inner-start c = search needs
-
-part-inner-end : tie.Need-part-inner-end
-part-inner-end c = search needs
-
-all-plain-requires : tie.Need-all-plain-requires
-all-plain-requires c κs = search needs
-
-read-given-requires : tie.Need-read-given-requires
-read-given-requires c κs = search needs
-
-same-length : tie.Need-same-length
-same-length c = search needs
 
 returns-3 : tie.Need-returns-3
 returns-3 c =
@@ -70,14 +46,14 @@ read-text-spec =
     tie.close
     (tie.spec
     returns
-    sub-close
-    shared-slice-read-if2
+    (λ c. search needs)  -- sub-close
+    (λ c. search needs)  -- shared-slice-read-if2
     returns-2
-    sub-inner
-    part-inner-start
-    part-inner-end
-    all-plain-requires
-    read-given-requires
-    same-length
+    (λ c. search needs)  -- sub-inner
+    (λ c. search needs)  -- part-inner-start
+    (λ c. search needs)  -- part-inner-end
+    (λ c κs. search needs)  -- all-plain-requires
+    (λ c κs. search needs)  -- read-given-requires
+    (λ c. search needs)  -- same-length
     returns-3
     returns-4)

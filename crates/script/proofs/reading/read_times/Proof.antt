@@ -19,9 +19,6 @@ returns c =
     read-malformed (timesOf (start .args .n) (start .args .digits .now)) (start .args .out .now)
     (times-length (start .args .n) (start .args .digits .now) (c .if1 .taken))
 
-all-hex-requires : tie.Need-all-hex-requires
-all-hex-requires c κs = search needs
-
 returns-2 : tie.Need-returns-2
 returns-2 c =
     let start = c .before .before .before .before .before .before in
@@ -33,12 +30,6 @@ returns-2 c =
     (read-too-long t (start .args .out .now)
     (omega (arith, length-replicate (start .args .n) (hexByte (getD d 0 0) (getD d 1 0)), c .if3 .taken)))
 
-shared-slice-read-hex-byte : tie.Need-shared-slice-read-hex-byte
-shared-slice-read-hex-byte c = search needs
-
-shared-slice-read-hex-byte-2 : tie.Need-shared-slice-read-hex-byte-2
-shared-slice-read-hex-byte-2 c = search needs
-
 hex-byte-requires : tie.Need-hex-byte-requires
 hex-byte-requires c κs =
     let start = c .before .before .before .before .before .before .before .before .before in
@@ -49,12 +40,6 @@ hex-byte-requires c κs =
       all-at isHex
           (start .args .digits .now) 1 (omega (arith, if1 .left)) (sym (all-hex .ensures) ∙ if2 .taken),
     )
-
-fill-requires : tie.Need-fill-requires
-fill-requires c κs = search needs
-
-same-length : tie.Need-same-length
-same-length c = search needs
 
 returns-3 : tie.Need-returns-3
 returns-3 c =
@@ -83,12 +68,12 @@ read-times-spec =
     tie.close
     (tie.spec
     returns
-    all-hex-requires
+    (λ c κs. search needs)  -- all-hex-requires
     returns-2
-    shared-slice-read-hex-byte
-    shared-slice-read-hex-byte-2
+    (λ c. search needs)  -- shared-slice-read-hex-byte
+    (λ c. search needs)  -- shared-slice-read-hex-byte-2
     hex-byte-requires
-    fill-requires
-    same-length
+    (λ c κs. search needs)  -- fill-requires
+    (λ c. search needs)  -- same-length
     returns-3
     returns-4)

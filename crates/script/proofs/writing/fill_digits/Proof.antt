@@ -15,21 +15,6 @@ abbrev μ-loop : tie.MeasureT-loop
 loop-holds : tie.Need-loop-holds Inv-loop μ-loop
 loop-holds c = fill-start (c .args .n) (c .args .part .now)
 
-sub-k : tie.Need-sub-k Inv-loop μ-loop
-sub-k c = omega arith
-
-cast-part : tie.Need-cast-part Inv-loop μ-loop
-cast-part c = omega arith
-
-add-part : tie.Need-add-part Inv-loop μ-loop
-add-part c = omega arith
-
-slice-write-part : tie.Need-slice-write-part Inv-loop μ-loop
-slice-write-part c = omega arith
-
-loop-less : tie.Need-loop-less Inv-loop μ-loop
-loop-less c = omega arith
-
 loop-again : tie.Need-loop-again Inv-loop μ-loop
 loop-again c =
     let start = c .before .before in
@@ -52,11 +37,11 @@ fill-digits-spec =
     Inv-loop
     μ-loop
     loop-holds
-    sub-k
-    cast-part
-    add-part
-    slice-write-part
-    loop-less
+    (λ c. omega arith)  -- sub-k
+    (λ c. omega arith)  -- cast-part
+    (λ c. omega arith)  -- add-part
+    (λ c. omega arith)  -- slice-write-part
+    (λ c. omega arith)  -- loop-less
     loop-again
     same-length
     returns)

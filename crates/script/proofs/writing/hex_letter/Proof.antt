@@ -5,12 +5,6 @@ use Rattle.script.specs.Hex.{hexLetter}
 use Rattle.script.proofs.writing.hex_letter.Statement.{statement}
 use Rattle.script.proofs.writing.hex_letter.Tie as tie
 
-add-result : tie.Need-add-result
-add-result c = search needs
-
-add-result-2 : tie.Need-add-result-2
-add-result-2 c = search needs
-
 returns : tie.Need-returns
 unfolding hexLetter
 returns c = rw (lt-ltb (c .before .args .v) 10 (c .if1 .taken))
@@ -20,4 +14,10 @@ unfolding hexLetter
 returns-2 c = rw (le-ltb (c .before .args .v) 10 (c .if1 .left))
 
 pub hex-letter-spec : {M : Type 1} → statement M
-hex-letter-spec = tie.close (tie.spec add-result add-result-2 returns returns-2)
+hex-letter-spec =
+    tie.close
+    (tie.spec
+    (λ c. search needs)  -- add-result
+    (λ c. search needs)  -- add-result-2
+    returns
+    returns-2)

@@ -10,42 +10,6 @@ use borrow.Author.Needs.{needs}
 use Rattle.script.proofs.writing.put_bytes_and_number.Statement.{statement}
 use Rattle.script.proofs.writing.put_bytes_and_number.Tie as tie
 
-put-text-requires : tie.Need-put-text-requires
-put-text-requires c κs = search needs
-
-sub-put-operand : tie.Need-sub-put-operand
-sub-put-operand c = search needs
-
-part-put-operand-start : tie.Need-part-put-operand-start
-part-put-operand-start c = search needs
-
-part-put-operand-end : tie.Need-part-put-operand-end
-part-put-operand-end c = search needs
-
-put-operand-requires : tie.Need-put-operand-requires
-put-operand-requires c κs = search needs
-
-add-m : tie.Need-add-m
-add-m c = search needs
-
-sub-put-number : tie.Need-sub-put-number
-sub-put-number c = search needs
-
-part-put-number-start : tie.Need-part-put-number-start
-part-put-number-start c = search needs
-
-part-put-number-end : tie.Need-part-put-number-end
-part-put-number-end c = search needs
-
-put-number-requires : tie.Need-put-number-requires
-put-number-requires c κs = search needs
-
-add-result : tie.Need-add-result
-add-result c = search needs
-
-same-length : tie.Need-same-length
-same-length c = search needs
-
 returns : tie.Need-returns
 returns c =
     let args = c .before .before .before .before .before .before .before .before .before .before .before .before .before .before .before .before .args in
@@ -59,16 +23,16 @@ pub put-bytes-and-number-spec : {M : Type 1} → statement M
 put-bytes-and-number-spec =
     tie.close
     (tie.spec
-    put-text-requires
-    sub-put-operand
-    part-put-operand-start
-    part-put-operand-end
-    put-operand-requires
-    add-m
-    sub-put-number
-    part-put-number-start
-    part-put-number-end
-    put-number-requires
-    add-result
-    same-length
+    (λ c κs. search needs)  -- put-text-requires
+    (λ c. search needs)  -- sub-put-operand
+    (λ c. search needs)  -- part-put-operand-start
+    (λ c. search needs)  -- part-put-operand-end
+    (λ c κs. search needs)  -- put-operand-requires
+    (λ c. search needs)  -- add-m
+    (λ c. search needs)  -- sub-put-number
+    (λ c. search needs)  -- part-put-number-start
+    (λ c. search needs)  -- part-put-number-end
+    (λ c κs. search needs)  -- put-number-requires
+    (λ c. search needs)  -- add-result
+    (λ c. search needs)  -- same-length
     returns)

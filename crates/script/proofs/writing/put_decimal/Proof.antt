@@ -9,28 +9,16 @@ use Rattle.script.proofs.ShownLaws.{written, not-written}
 use Rattle.script.proofs.writing.put_decimal.Statement.{statement}
 use Rattle.script.proofs.writing.put_decimal.Tie as tie
 
-decimal-width-requires : tie.Need-decimal-width-requires
-decimal-width-requires c κs = search needs
-
 returns : tie.Need-returns
 returns c =
     let start = c .before .before .before in
     not-written (decimalText (start .args .n)) (start .args .out .now)
     (omega (arith, length-decimalText (start .args .n), c .before .decimal-width .ensures .0, c .if1 .taken))
 
-slice-relend-prefix-fill-digits : tie.Need-slice-relend-prefix-fill-digits
-slice-relend-prefix-fill-digits c = search needs
-
 slice-aggregate-fill-digits : tie.Need-slice-aggregate-fill-digits
 slice-aggregate-fill-digits c =
     let start = c .before .before .before .before in
     sym (length-take-le (c .before .before .decimal-width .result) (start .args .out .now) (c .before .if1 .left))
-
-fill-digits-requires : tie.Need-fill-digits-requires
-fill-digits-requires c κs = search needs
-
-same-length : tie.Need-same-length
-same-length c = search needs
 
 returns-2 : tie.Need-returns-2
 returns-2 c =
@@ -48,10 +36,10 @@ pub put-decimal-spec : {M : Type 1} → statement M
 put-decimal-spec =
     tie.close
     (tie.spec
-    decimal-width-requires
+    (λ c κs. search needs)  -- decimal-width-requires
     returns
-    slice-relend-prefix-fill-digits
+    (λ c. search needs)  -- slice-relend-prefix-fill-digits
     slice-aggregate-fill-digits
-    fill-digits-requires
-    same-length
+    (λ c κs. search needs)  -- fill-digits-requires
+    (λ c. search needs)  -- same-length
     returns-2)

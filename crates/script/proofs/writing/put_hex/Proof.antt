@@ -31,30 +31,6 @@ loop-holds : tie.Need-loop-holds Inv-loop μ-loop
 unfolding hexText
 loop-holds c = (omega arith, refl, front-none _, refl)
 
-sub-put-pair : tie.Need-sub-put-pair Inv-loop μ-loop
-sub-put-pair c = search needs
-
-part-put-pair-start : tie.Need-part-put-pair-start Inv-loop μ-loop
-part-put-pair-start c = search needs
-
-part-put-pair-end : tie.Need-part-put-pair-end Inv-loop μ-loop
-part-put-pair-end c = search needs
-
-shared-slice-read-put-pair : tie.Need-shared-slice-read-put-pair Inv-loop μ-loop
-shared-slice-read-put-pair c = search needs
-
-put-pair-requires : tie.Need-put-pair-requires Inv-loop μ-loop
-put-pair-requires c κs = search needs
-
-add-at : tie.Need-add-at Inv-loop μ-loop
-add-at c = search needs
-
-add-i : tie.Need-add-i Inv-loop μ-loop
-add-i c = search needs
-
-loop-less : tie.Need-loop-less Inv-loop μ-loop
-loop-less c = search needs
-
 loop-again : tie.Need-loop-again Inv-loop μ-loop
 loop-again c =
     let start = c .before .before .before .before .before .before .before .before .before .before in
@@ -70,9 +46,6 @@ loop-again c =
       one ∙ ap (λ (t : List ℕ). front t (start .args .out .now)) (sym (hexText-more (l .i) s (omega arith))),
       omega arith,
     )
-
-same-length : tie.Need-same-length Inv-loop μ-loop
-same-length c = search needs
 
 returns-2 : tie.Need-returns-2 Inv-loop μ-loop
 returns-2 c =
@@ -91,14 +64,14 @@ put-hex-spec =
     μ-loop
     returns
     loop-holds
-    sub-put-pair
-    part-put-pair-start
-    part-put-pair-end
-    shared-slice-read-put-pair
-    put-pair-requires
-    add-at
-    add-i
-    loop-less
+    (λ c. search needs)  -- sub-put-pair
+    (λ c. search needs)  -- part-put-pair-start
+    (λ c. search needs)  -- part-put-pair-end
+    (λ c. search needs)  -- shared-slice-read-put-pair
+    (λ c κs. search needs)  -- put-pair-requires
+    (λ c. search needs)  -- add-at
+    (λ c. search needs)  -- add-i
+    (λ c. search needs)  -- loop-less
     loop-again
-    same-length
+    (λ c. search needs)  -- same-length
     returns-2)

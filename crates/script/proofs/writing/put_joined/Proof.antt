@@ -33,12 +33,6 @@ place c =
     let start = c .before .before .before .before .before .before .before in
     hex c .count ∙ length-hexText (start .args .head .now)
 
-decimal-width-requires : tie.Need-decimal-width-requires
-decimal-width-requires c κs = search needs
-
-add-after : tie.Need-add-after
-add-after c = search needs
-
 returns : tie.Need-returns
 returns c =
     let start = c .before .before .before .before in
@@ -49,9 +43,6 @@ returns c =
           (c .before .decimal-width .ensures .0),
       c .if1 .taken,
     ))
-
-sub-if2 : tie.Need-sub-if2
-sub-if2 c = search needs
 
 returns-2 : tie.Need-returns-2
 returns-2 c =
@@ -65,26 +56,8 @@ returns-2 c =
       c .if2 .taken,
     ))
 
-put-hex-requires : tie.Need-put-hex-requires
-put-hex-requires c κs = search needs
-
-sub-put-bytes : tie.Need-sub-put-bytes
-sub-put-bytes c = search needs
-
-part-put-bytes-start : tie.Need-part-put-bytes-start
-part-put-bytes-start c = search needs
-
-part-put-bytes-end : tie.Need-part-put-bytes-end
-part-put-bytes-end c = search needs
-
-slice-aggregate-put-bytes : tie.Need-slice-aggregate-put-bytes
-slice-aggregate-put-bytes c = search needs
-
 put-bytes-requires : tie.Need-put-bytes-requires
 put-bytes-requires c κs = omega (arith, place (c .before .before .before .before), fits (c .before .before .before .before .before .before))
-
-add-put-run : tie.Need-add-put-run
-add-put-run c = search needs
 
 sub-put-run : tie.Need-sub-put-run
 sub-put-run c =
@@ -103,18 +76,6 @@ part-put-run-start c =
       fits
           (c .before .before .before .before .before .before .before .before .before),
     )
-
-part-put-run-end : tie.Need-part-put-run-end
-part-put-run-end c = search needs
-
-put-run-requires : tie.Need-put-run-requires
-put-run-requires c κs = search needs
-
-add-result : tie.Need-add-result
-add-result c = search needs
-
-same-length : tie.Need-same-length
-same-length c = search needs
 
 returns-3 : tie.Need-returns-3
 unfolding joinedText
@@ -142,22 +103,22 @@ pub put-joined-spec : {M : Type 1} → statement M
 put-joined-spec =
     tie.close
     (tie.spec
-    decimal-width-requires
-    add-after
+    (λ c κs. search needs)  -- decimal-width-requires
+    (λ c. search needs)  -- add-after
     returns
-    sub-if2
+    (λ c. search needs)  -- sub-if2
     returns-2
-    put-hex-requires
-    sub-put-bytes
-    part-put-bytes-start
-    part-put-bytes-end
-    slice-aggregate-put-bytes
+    (λ c κs. search needs)  -- put-hex-requires
+    (λ c. search needs)  -- sub-put-bytes
+    (λ c. search needs)  -- part-put-bytes-start
+    (λ c. search needs)  -- part-put-bytes-end
+    (λ c. search needs)  -- slice-aggregate-put-bytes
     put-bytes-requires
-    add-put-run
+    (λ c. search needs)  -- add-put-run
     sub-put-run
     part-put-run-start
-    part-put-run-end
-    put-run-requires
-    add-result
-    same-length
+    (λ c. search needs)  -- part-put-run-end
+    (λ c κs. search needs)  -- put-run-requires
+    (λ c. search needs)  -- add-result
+    (λ c. search needs)  -- same-length
     returns-3)

@@ -8,27 +8,6 @@ use borrow.Author.Needs.{needs}
 use Rattle.script.proofs.writing.put_number.Statement.{statement}
 use Rattle.script.proofs.writing.put_number.Tie as tie
 
-put-text-requires : tie.Need-put-text-requires
-put-text-requires c κs = search needs
-
-sub-put-decimal : tie.Need-sub-put-decimal
-sub-put-decimal c = search needs
-
-part-put-decimal-start : tie.Need-part-put-decimal-start
-part-put-decimal-start c = search needs
-
-part-put-decimal-end : tie.Need-part-put-decimal-end
-part-put-decimal-end c = search needs
-
-put-decimal-requires : tie.Need-put-decimal-requires
-put-decimal-requires c κs = search needs
-
-add-result : tie.Need-add-result
-add-result c = search needs
-
-same-length : tie.Need-same-length
-same-length c = search needs
-
 returns : tie.Need-returns
 returns c =
     let a = c .before .before .before .before .before .before .before .before .before .before .args in
@@ -43,11 +22,11 @@ pub put-number-spec : {M : Type 1} → statement M
 put-number-spec =
     tie.close
     (tie.spec
-    put-text-requires
-    sub-put-decimal
-    part-put-decimal-start
-    part-put-decimal-end
-    put-decimal-requires
-    add-result
-    same-length
+    (λ c κs. search needs)  -- put-text-requires
+    (λ c. search needs)  -- sub-put-decimal
+    (λ c. search needs)  -- part-put-decimal-start
+    (λ c. search needs)  -- part-put-decimal-end
+    (λ c κs. search needs)  -- put-decimal-requires
+    (λ c. search needs)  -- add-result
+    (λ c. search needs)  -- same-length
     returns)

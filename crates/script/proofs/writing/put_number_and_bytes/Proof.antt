@@ -10,27 +10,6 @@ use borrow.Author.Needs.{needs}
 use Rattle.script.proofs.writing.put_number_and_bytes.Statement.{statement}
 use Rattle.script.proofs.writing.put_number_and_bytes.Tie as tie
 
-put-number-requires : tie.Need-put-number-requires
-put-number-requires c κs = search needs
-
-sub-put-spaced : tie.Need-sub-put-spaced
-sub-put-spaced c = search needs
-
-part-put-spaced-start : tie.Need-part-put-spaced-start
-part-put-spaced-start c = search needs
-
-part-put-spaced-end : tie.Need-part-put-spaced-end
-part-put-spaced-end c = search needs
-
-put-spaced-requires : tie.Need-put-spaced-requires
-put-spaced-requires c κs = search needs
-
-add-result : tie.Need-add-result
-add-result c = search needs
-
-same-length : tie.Need-same-length
-same-length c = search needs
-
 returns : tie.Need-returns
 returns c =
     let args = c .before .before .before .before .before .before .before .before .before .before .before .args in
@@ -42,11 +21,11 @@ pub put-number-and-bytes-spec : {M : Type 1} → statement M
 put-number-and-bytes-spec =
     tie.close
     (tie.spec
-    put-number-requires
-    sub-put-spaced
-    part-put-spaced-start
-    part-put-spaced-end
-    put-spaced-requires
-    add-result
-    same-length
+    (λ c κs. search needs)  -- put-number-requires
+    (λ c. search needs)  -- sub-put-spaced
+    (λ c. search needs)  -- part-put-spaced-start
+    (λ c. search needs)  -- part-put-spaced-end
+    (λ c κs. search needs)  -- put-spaced-requires
+    (λ c. search needs)  -- add-result
+    (λ c. search needs)  -- same-length
     returns)

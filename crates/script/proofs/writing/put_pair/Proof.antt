@@ -5,21 +5,6 @@ use Rattle.script.specs.Hex.{hexPair}
 use Rattle.script.proofs.writing.put_pair.Statement.{statement}
 use Rattle.script.proofs.writing.put_pair.Tie as tie
 
-hex-letter-requires : tie.Need-hex-letter-requires
-hex-letter-requires c κs = search needs
-
-slice-write-out : tie.Need-slice-write-out
-slice-write-out c = search needs
-
-hex-letter-requires-2 : tie.Need-hex-letter-requires-2
-hex-letter-requires-2 c κs = search needs
-
-slice-write-out-2 : tie.Need-slice-write-out-2
-slice-write-out-2 c = search needs
-
-same-length : tie.Need-same-length
-same-length c = search needs
-
 returns : tie.Need-returns
 unfolding hexPair
 returns c =
@@ -31,9 +16,9 @@ pub put-pair-spec : {M : Type 1} → statement M
 put-pair-spec =
     tie.close
     (tie.spec
-    hex-letter-requires
-    slice-write-out
-    hex-letter-requires-2
-    slice-write-out-2
-    same-length
+    (λ c κs. search needs)  -- hex-letter-requires
+    (λ c. search needs)  -- slice-write-out
+    (λ c κs. search needs)  -- hex-letter-requires-2
+    (λ c. search needs)  -- slice-write-out-2
+    (λ c. search needs)  -- same-length
     returns)

@@ -14,56 +14,11 @@ use Rattle.script.proofs.ShownLaws.{written, not-written, was-written, 
 use Rattle.script.proofs.writing.put_run.Statement.{statement}
 use Rattle.script.proofs.writing.put_run.Tie as tie
 
-decimal-width-requires : tie.Need-decimal-width-requires
-decimal-width-requires c κs = search needs
-
-add-if1 : tie.Need-add-if1
-add-if1 c = search needs
-
 returns : tie.Need-returns
 returns c =
     let start = c .before .before .before in
     not-written (runText (start .args .times) (start .args .byte)) (start .args .out .now)
     (omega (arith, length-runText (start .args .times) (start .args .byte), c .before .decimal-width .ensures .0, c .if1 .taken))
-
-put-decimal-requires : tie.Need-put-decimal-requires
-put-decimal-requires c κs = search needs
-
-sub-put-bytes : tie.Need-sub-put-bytes
-sub-put-bytes c = search needs
-
-part-put-bytes-start : tie.Need-part-put-bytes-start
-part-put-bytes-start c = search needs
-
-part-put-bytes-end : tie.Need-part-put-bytes-end
-part-put-bytes-end c = search needs
-
-slice-aggregate-put-bytes : tie.Need-slice-aggregate-put-bytes
-slice-aggregate-put-bytes c = search needs
-
-put-bytes-requires : tie.Need-put-bytes-requires
-put-bytes-requires c κs = search needs
-
-add-put-pair : tie.Need-add-put-pair
-add-put-pair c = search needs
-
-sub-put-pair : tie.Need-sub-put-pair
-sub-put-pair c = search needs
-
-part-put-pair-start : tie.Need-part-put-pair-start
-part-put-pair-start c = search needs
-
-part-put-pair-end : tie.Need-part-put-pair-end
-part-put-pair-end c = search needs
-
-put-pair-requires : tie.Need-put-pair-requires
-put-pair-requires c κs = search needs
-
-add-result : tie.Need-add-result
-add-result c = search needs
-
-same-length : tie.Need-same-length
-same-length c = search needs
 
 returns-2 : tie.Need-returns-2
 unfolding runText
@@ -89,20 +44,20 @@ pub put-run-spec : {M : Type 1} → statement M
 put-run-spec =
     tie.close
     (tie.spec
-    decimal-width-requires
-    add-if1
+    (λ c κs. search needs)  -- decimal-width-requires
+    (λ c. search needs)  -- add-if1
     returns
-    put-decimal-requires
-    sub-put-bytes
-    part-put-bytes-start
-    part-put-bytes-end
-    slice-aggregate-put-bytes
-    put-bytes-requires
-    add-put-pair
-    sub-put-pair
-    part-put-pair-start
-    part-put-pair-end
-    put-pair-requires
-    add-result
-    same-length
+    (λ c κs. search needs)  -- put-decimal-requires
+    (λ c. search needs)  -- sub-put-bytes
+    (λ c. search needs)  -- part-put-bytes-start
+    (λ c. search needs)  -- part-put-bytes-end
+    (λ c. search needs)  -- slice-aggregate-put-bytes
+    (λ c κs. search needs)  -- put-bytes-requires
+    (λ c. search needs)  -- add-put-pair
+    (λ c. search needs)  -- sub-put-pair
+    (λ c. search needs)  -- part-put-pair-start
+    (λ c. search needs)  -- part-put-pair-end
+    (λ c κs. search needs)  -- put-pair-requires
+    (λ c. search needs)  -- add-result
+    (λ c. search needs)  -- same-length
     returns-2)

@@ -9,30 +9,6 @@ use borrow.Author.Needs.{needs}
 use Rattle.script.proofs.writing.put_spaced.Statement.{statement}
 use Rattle.script.proofs.writing.put_spaced.Tie as tie
 
-slice-aggregate-put-text : tie.Need-slice-aggregate-put-text
-slice-aggregate-put-text c = search needs
-
-put-text-requires : tie.Need-put-text-requires
-put-text-requires c κs = search needs
-
-sub-put-operand : tie.Need-sub-put-operand
-sub-put-operand c = search needs
-
-part-put-operand-start : tie.Need-part-put-operand-start
-part-put-operand-start c = search needs
-
-part-put-operand-end : tie.Need-part-put-operand-end
-part-put-operand-end c = search needs
-
-put-operand-requires : tie.Need-put-operand-requires
-put-operand-requires c κs = search needs
-
-add-result : tie.Need-add-result
-add-result c = search needs
-
-same-length : tie.Need-same-length
-same-length c = search needs
-
 returns : tie.Need-returns
 returns c =
     let args = c .before .before .before .before .before .before .before .before .before .before .before .args in
@@ -44,12 +20,12 @@ pub put-spaced-spec : {M : Type 1} → statement M
 put-spaced-spec =
     tie.close
     (tie.spec
-    slice-aggregate-put-text
-    put-text-requires
-    sub-put-operand
-    part-put-operand-start
-    part-put-operand-end
-    put-operand-requires
-    add-result
-    same-length
+    (λ c. search needs)  -- slice-aggregate-put-text
+    (λ c κs. search needs)  -- put-text-requires
+    (λ c. search needs)  -- sub-put-operand
+    (λ c. search needs)  -- part-put-operand-start
+    (λ c. search needs)  -- part-put-operand-end
+    (λ c κs. search needs)  -- put-operand-requires
+    (λ c. search needs)  -- add-result
+    (λ c. search needs)  -- same-length
     returns)

@@ -8,27 +8,6 @@ use borrow.Author.Needs.{needs}
 use Rattle.script.proofs.writing.put_two_numbers.Statement.{statement}
 use Rattle.script.proofs.writing.put_two_numbers.Tie as tie
 
-put-number-requires : tie.Need-put-number-requires
-put-number-requires c κs = search needs
-
-sub-put-number : tie.Need-sub-put-number
-sub-put-number c = search needs
-
-part-put-number-start : tie.Need-part-put-number-start
-part-put-number-start c = search needs
-
-part-put-number-end : tie.Need-part-put-number-end
-part-put-number-end c = search needs
-
-put-number-requires-2 : tie.Need-put-number-requires-2
-put-number-requires-2 c κs = search needs
-
-add-result : tie.Need-add-result
-add-result c = search needs
-
-same-length : tie.Need-same-length
-same-length c = search needs
-
 returns : tie.Need-returns
 returns c =
     let a = c .before .before .before .before .before .before .before .before .before .before .before .args in
@@ -43,11 +22,11 @@ pub put-two-numbers-spec : {M : Type 1} → statement M
 put-two-numbers-spec =
     tie.close
     (tie.spec
-    put-number-requires
-    sub-put-number
-    part-put-number-start
-    part-put-number-end
-    put-number-requires-2
-    add-result
-    same-length
+    (λ c κs. search needs)  -- put-number-requires
+    (λ c. search needs)  -- sub-put-number
+    (λ c. search needs)  -- part-put-number-start
+    (λ c. search needs)  -- part-put-number-end
+    (λ c κs. search needs)  -- put-number-requires-2
+    (λ c. search needs)  -- add-result
+    (λ c. search needs)  -- same-length
     returns)

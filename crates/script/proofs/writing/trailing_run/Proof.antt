@@ -21,25 +21,10 @@ abbrev μ-loop : tie.MeasureT-loop
 returns : tie.Need-returns Inv-loop μ-loop
 returns c = (run-none (c .before .args .bytes .now) (c .if1 .taken), zero-le)
 
-sub-last : tie.Need-sub-last Inv-loop μ-loop
-sub-last c = search needs
-
-shared-slice-read-last : tie.Need-shared-slice-read-last Inv-loop μ-loop
-shared-slice-read-last c = search needs
-
 loop-holds : tie.Need-loop-holds Inv-loop μ-loop
 loop-holds c =
     let start = c .before .before in
     (zero-le, run-start (start .args .bytes .now) _ refl)
-
-sub-if2 : tie.Need-sub-if2 Inv-loop μ-loop
-sub-if2 c = search needs
-
-sub-if2-2 : tie.Need-sub-if2-2 Inv-loop μ-loop
-sub-if2-2 c = search needs
-
-shared-slice-read-if2 : tie.Need-shared-slice-read-if2 Inv-loop μ-loop
-shared-slice-read-if2 c = search needs
 
 returns-2 : tie.Need-returns-2 Inv-loop μ-loop
 returns-2 c =
@@ -48,12 +33,6 @@ returns-2 c =
       omega (arith, loop .inv .1, run-stop (start .args .bytes .now) _ (loop .k) (c .before .before .loop-test .taken) (c .if2 .taken)),
       omega arith,
     )
-
-add-k : tie.Need-add-k Inv-loop μ-loop
-add-k c = search needs
-
-loop-less : tie.Need-loop-less Inv-loop μ-loop
-loop-less c = search needs
 
 loop-again : tie.Need-loop-again Inv-loop μ-loop
 loop-again c =
@@ -87,14 +66,14 @@ trailing-run-spec =
     Inv-loop
     μ-loop
     returns
-    sub-last
-    shared-slice-read-last
+    (λ c. search needs)  -- sub-last
+    (λ c. search needs)  -- shared-slice-read-last
     loop-holds
-    sub-if2
-    sub-if2-2
-    shared-slice-read-if2
+    (λ c. search needs)  -- sub-if2
+    (λ c. search needs)  -- sub-if2-2
+    (λ c. search needs)  -- shared-slice-read-if2
     returns-2
-    add-k
-    loop-less
+    (λ c. search needs)  -- add-k
+    (λ c. search needs)  -- loop-less
     loop-again
     returns-3)

@@ -16,15 +16,9 @@ ext-server-name-requires c κs =
     let room = rw (c .before .match .keys1) at (start .pre .has) in
     (undrawn-room (length-server-name (now (start .args .name))) room, omega (arith, start .pre .shortName))
 
-still-requires : tie.Need-still-requires
-still-requires c κs = search needs
-
 protocols-requires : tie.Need-protocols-requires
 unfolding buildExtension
 protocols-requires c κs = (rw (c .before .match .keys2) at (c .before .before .before .before .before .before .pre .has)) .fits
-
-still-requires-2 : tie.Need-still-requires-2
-still-requires-2 c κs = search needs
 
 groups-requires : tie.Need-groups-requires
 unfolding buildExtension
@@ -32,17 +26,11 @@ groups-requires c κs =
     let pre = c .before .before .before .before .before .before .pre in
     (pre .sound, (rw (c .before .match .keys3) at (pre .has)) .fits)
 
-still-requires-3 : tie.Need-still-requires-3
-still-requires-3 c κs = search needs
-
 algorithms-requires : tie.Need-algorithms-requires
 unfolding buildExtension
 algorithms-requires c κs =
     let pre = c .before .before .before .before .before .before .pre in
     (pre .sound, (rw (c .before .match .keys4) at (pre .has)) .fits)
-
-still-requires-4 : tie.Need-still-requires-4
-still-requires-4 c κs = search needs
 
 versions-requires : tie.Need-versions-requires
 unfolding buildExtension
@@ -50,15 +38,9 @@ versions-requires c κs =
     let pre = c .before .before .before .before .before .before .pre in
     (pre .sound, (rw (c .before .match .keys5) at (pre .has)) .fits)
 
-still-requires-5 : tie.Need-still-requires-5
-still-requires-5 c κs = search needs
-
 ext-psk-ke-modes-requires : tie.Need-ext-psk-ke-modes-requires
 unfolding buildExtension
 ext-psk-ke-modes-requires c κs = undrawn-room length-psk-ke-modes (rw (c .before .match .keys6) at (c .before .before .before .before .before .before .pre .has))
-
-still-requires-6 : tie.Need-still-requires-6
-still-requires-6 c κs = search needs
 
 key-shares-requires : tie.Need-key-shares-requires
 unfolding buildExtension
@@ -76,165 +58,93 @@ ext-compress-cert-requires : tie.Need-ext-compress-cert-requires
 unfolding buildExtension
 ext-compress-cert-requires c κs = (rw (c .before .match .keys9) at (c .before .before .before .before .before .before .pre .has)) .fits
 
-still-requires-7 : tie.Need-still-requires-7
-still-requires-7 c κs = search needs
-
 ext-record-size-limit-requires : tie.Need-ext-record-size-limit-requires
 unfolding buildExtension
 ext-record-size-limit-requires c κs = undrawn-room length-record-size-limit (rw (c .before .match .keys10) at (c .before .before .before .before .before .before .pre .has))
-
-still-requires-8 : tie.Need-still-requires-8
-still-requires-8 c κs = search needs
 
 ext-reneg-info-requires : tie.Need-ext-reneg-info-requires
 unfolding buildExtension
 ext-reneg-info-requires c κs = undrawn-room length-reneg-info (rw (c .before .match .keys11) at (c .before .before .before .before .before .before .pre .has))
 
-still-requires-9 : tie.Need-still-requires-9
-still-requires-9 c κs = search needs
-
 ext-status-request-requires : tie.Need-ext-status-request-requires
 unfolding buildExtension
 ext-status-request-requires c κs = undrawn-room length-status-request (rw (c .before .match .keys12) at (c .before .before .before .before .before .before .pre .has))
-
-still-requires-10 : tie.Need-still-requires-10
-still-requires-10 c κs = search needs
 
 ext-extended-master-secret-requires : tie.Need-ext-extended-master-secret-requires
 unfolding buildExtension
 ext-extended-master-secret-requires c κs = undrawn-room length-extended-master-secret (rw (c .before .match .keys13) at (c .before .before .before .before .before .before .pre .has))
 
-still-requires-11 : tie.Need-still-requires-11
-still-requires-11 c κs = search needs
-
 ext-delegated-credentials-requires : tie.Need-ext-delegated-credentials-requires
 unfolding buildExtension
 ext-delegated-credentials-requires c κs = undrawn-room length-delegated-credentials (rw (c .before .match .keys14) at (c .before .before .before .before .before .before .pre .has))
-
-still-requires-12 : tie.Need-still-requires-12
-still-requires-12 c κs = search needs
 
 settings-requires : tie.Need-settings-requires
 unfolding buildExtension
 settings-requires c κs = (rw (c .before .match .keys15) at (c .before .before .before .before .before .before .pre .has)) .fits
 
-still-requires-13 : tie.Need-still-requires-13
-still-requires-13 c κs = search needs
-
 ech-requires : tie.Need-ech-requires
 unfolding buildExtension
 ech-requires c κs = rw (c .before .match .keys16) at (c .before .before .before .before .before .before .pre .has)
-
-still-requires-14 : tie.Need-still-requires-14
-still-requires-14 c κs = search needs
-
-same-length : tie.Need-same-length
-same-length c = search needs
 
 returns : tie.Need-returns
 unfolding buildExtension
 returns c = rw (c .before .before .before .before .before .match .keys1) (undrawn-puts (c .before .before .before .ext-server-name .ensures) (c .still .ensures))
 
-same-length-2 : tie.Need-same-length-2
-same-length-2 c = search needs
-
 returns-2 : tie.Need-returns-2
 unfolding buildExtension
 returns-2 c = rw (c .before .before .before .before .before .match .keys2) (undrawn-puts (c .before .before .before .protocols .ensures) (c .still2 .ensures))
-
-same-length-3 : tie.Need-same-length-3
-same-length-3 c = search needs
 
 returns-3 : tie.Need-returns-3
 unfolding buildExtension
 returns-3 c = rw (c .before .before .before .before .before .match .keys3) (undrawn-puts (c .before .before .before .groups .ensures) (c .still3 .ensures))
 
-same-length-4 : tie.Need-same-length-4
-same-length-4 c = search needs
-
 returns-4 : tie.Need-returns-4
 unfolding buildExtension
 returns-4 c = rw (c .before .before .before .before .before .match .keys4) (undrawn-puts (c .before .before .before .algorithms .ensures) (c .still4 .ensures))
-
-same-length-5 : tie.Need-same-length-5
-same-length-5 c = search needs
 
 returns-5 : tie.Need-returns-5
 unfolding buildExtension
 returns-5 c = rw (c .before .before .before .before .before .match .keys5) (undrawn-puts (c .before .before .before .versions .ensures) (c .still5 .ensures))
 
-same-length-6 : tie.Need-same-length-6
-same-length-6 c = search needs
-
 returns-6 : tie.Need-returns-6
 unfolding buildExtension
 returns-6 c = rw (c .before .before .before .before .before .match .keys6) (undrawn-puts (c .before .before .before .ext-psk-ke-modes .ensures) (c .still6 .ensures))
-
-same-length-7 : tie.Need-same-length-7
-same-length-7 c = search needs
 
 returns-7 : tie.Need-returns-7
 unfolding buildExtension
 returns-7 c = rw (c .before .before .before .before .match .keys7) (c .before .before .key-shares .ensures)
 
-same-length-8 : tie.Need-same-length-8
-same-length-8 c = search needs
-
 returns-8 : tie.Need-returns-8
 unfolding buildExtension
 returns-8 c = rw (c .before .before .before .before .match .keys8) (c .before .before .parameters .ensures)
-
-same-length-9 : tie.Need-same-length-9
-same-length-9 c = search needs
 
 returns-9 : tie.Need-returns-9
 unfolding buildExtension
 returns-9 c = rw (c .before .before .before .before .before .match .keys9) (undrawn-puts (c .before .before .before .ext-compress-cert .ensures) (c .still7 .ensures))
 
-same-length-10 : tie.Need-same-length-10
-same-length-10 c = search needs
-
 returns-10 : tie.Need-returns-10
 unfolding buildExtension
 returns-10 c = rw (c .before .before .before .before .before .match .keys10) (undrawn-puts (c .before .before .before .ext-record-size-limit .ensures) (c .still8 .ensures))
-
-same-length-11 : tie.Need-same-length-11
-same-length-11 c = search needs
 
 returns-11 : tie.Need-returns-11
 unfolding buildExtension
 returns-11 c = rw (c .before .before .before .before .before .match .keys11) (undrawn-puts (c .before .before .before .ext-reneg-info .ensures) (c .still9 .ensures))
 
-same-length-12 : tie.Need-same-length-12
-same-length-12 c = search needs
-
 returns-12 : tie.Need-returns-12
 unfolding buildExtension
 returns-12 c = rw (c .before .before .before .before .before .match .keys12) (undrawn-puts (c .before .before .before .ext-status-request .ensures) (c .still10 .ensures))
-
-same-length-13 : tie.Need-same-length-13
-same-length-13 c = search needs
 
 returns-13 : tie.Need-returns-13
 unfolding buildExtension
 returns-13 c = rw (c .before .before .before .before .before .match .keys13) (undrawn-puts (c .before .before .before .ext-extended-master-secret .ensures) (c .still11 .ensures))
 
-same-length-14 : tie.Need-same-length-14
-same-length-14 c = search needs
-
 returns-14 : tie.Need-returns-14
 unfolding buildExtension
 returns-14 c = rw (c .before .before .before .before .before .match .keys14) (undrawn-puts (c .before .before .before .ext-delegated-credentials .ensures) (c .still12 .ensures))
 
-same-length-15 : tie.Need-same-length-15
-same-length-15 c = search needs
-
 returns-15 : tie.Need-returns-15
 unfolding buildExtension
 returns-15 c = rw (c .before .before .before .before .before .match .keys15) (undrawn-puts (c .before .before .before .settings .ensures) (c .still13 .ensures))
-
-same-length-16 : tie.Need-same-length-16
-same-length-16 c = search needs
 
 returns-16 : tie.Need-returns-16
 unfolding buildExtension
@@ -269,65 +179,65 @@ build-extension-spec =
     tie.close
     (tie.spec
     ext-server-name-requires
-    still-requires
+    (λ c κs. search needs)  -- still-requires
     protocols-requires
-    still-requires-2
+    (λ c κs. search needs)  -- still-requires-2
     groups-requires
-    still-requires-3
+    (λ c κs. search needs)  -- still-requires-3
     algorithms-requires
-    still-requires-4
+    (λ c κs. search needs)  -- still-requires-4
     versions-requires
-    still-requires-5
+    (λ c κs. search needs)  -- still-requires-5
     ext-psk-ke-modes-requires
-    still-requires-6
+    (λ c κs. search needs)  -- still-requires-6
     key-shares-requires
     parameters-requires
     ext-compress-cert-requires
-    still-requires-7
+    (λ c κs. search needs)  -- still-requires-7
     ext-record-size-limit-requires
-    still-requires-8
+    (λ c κs. search needs)  -- still-requires-8
     ext-reneg-info-requires
-    still-requires-9
+    (λ c κs. search needs)  -- still-requires-9
     ext-status-request-requires
-    still-requires-10
+    (λ c κs. search needs)  -- still-requires-10
     ext-extended-master-secret-requires
-    still-requires-11
+    (λ c κs. search needs)  -- still-requires-11
     ext-delegated-credentials-requires
-    still-requires-12
+    (λ c κs. search needs)  -- still-requires-12
     settings-requires
-    still-requires-13
+    (λ c κs. search needs)  -- still-requires-13
     ech-requires
-    still-requires-14
-    same-length
+    (λ c κs. search needs)  -- still-requires-14
+    (λ c. search needs)  -- same-length
     returns
-    same-length-2
+    (λ c. search needs)  -- same-length-2
     returns-2
-    same-length-3
+    (λ c. search needs)  -- same-length-3
     returns-3
-    same-length-4
+    (λ c. search needs)  -- same-length-4
     returns-4
-    same-length-5
+    (λ c. search needs)  -- same-length-5
     returns-5
-    same-length-6
+    (λ c. search needs)  -- same-length-6
     returns-6
-    same-length-7
+    (λ c. search needs)  -- same-length-7
     returns-7
-    same-length-8
+    (λ c. search needs)  -- same-length-8
     returns-8
-    same-length-9
+    (λ c. search needs)  -- same-length-9
     returns-9
-    same-length-10
+    (λ c. search needs)  -- same-length-10
     returns-10
-    same-length-11
+    (λ c. search needs)  -- same-length-11
     returns-11
-    same-length-12
+    (λ c. search needs)  -- same-length-12
     returns-12
-    same-length-13
+    (λ c. search needs)  -- same-length-13
     returns-13
-    same-length-14
+    (λ c. search needs)  -- same-length-14
     returns-14
-    same-length-15
+    (λ c. search needs)  -- same-length-15
     returns-15
-    same-length-16
+    (λ c. search needs)  -- same-length-16
     returns-16
     returns-17)

@@ -72,20 +72,11 @@ loop-holds c =
     let start = c .before .before .before .before .before .before in
     (omega arith, starts _ (now (start .args .out)) (start .pre .part .has .fits))
 
-mul-k : tie.Need-mul-k Inv-loop μ-loop
-mul-k c = search needs
-
-shared-slice-read-k : tie.Need-shared-slice-read-k Inv-loop μ-loop
-shared-slice-read-k c = search needs
-
 sub-build-extension : tie.Need-sub-build-extension Inv-loop μ-loop
 sub-build-extension c = place-within (c .before .before .loop .inv .1 .writing)
 
 part-build-extension-start : tie.Need-part-build-extension-start Inv-loop μ-loop
 part-build-extension-start c = place-within (c .before .before .loop .inv .1 .writing)
-
-part-build-extension-end : tie.Need-part-build-extension-end Inv-loop μ-loop
-part-build-extension-end c = search needs
 
 mul-t17 : tie.Need-mul-t17 Inv-loop μ-loop
 mul-t17 c = omega (arith, c .before .before .before .before .before .before .before .before .before .before .pre .places (c .before .before .before .loop .i) (c .before .before .loop-test .taken))
@@ -119,12 +110,6 @@ build-extension-requires c κs =
 add-n : tie.Need-add-n Inv-loop μ-loop
 add-n c = omega (arith, next-drawn c .writing .within, c .before .before .before .before .before .before .before .before .before .before .before .before .before .before .pre .part .has .small)
 
-add-i : tie.Need-add-i Inv-loop μ-loop
-add-i c = omega arith
-
-loop-less : tie.Need-loop-less Inv-loop μ-loop
-loop-less c = omega arith
-
 loop-again : tie.Need-loop-again Inv-loop μ-loop
 loop-again c = (omega arith, next-drawn c)
 
@@ -146,17 +131,17 @@ build-extensions-spec =
     Inv-loop
     μ-loop
     loop-holds
-    mul-k
-    shared-slice-read-k
+    (λ c. search needs)  -- mul-k
+    (λ c. search needs)  -- shared-slice-read-k
     sub-build-extension
     part-build-extension-start
-    part-build-extension-end
+    (λ c. search needs)  -- part-build-extension-end
     mul-t17
     array-read-t23
     build-extension-requires
     add-n
-    add-i
-    loop-less
+    (λ c. omega arith)  -- add-i
+    (λ c. omega arith)  -- loop-less
     loop-again
     same-length
     returns)

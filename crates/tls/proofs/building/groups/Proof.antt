@@ -12,12 +12,6 @@ use Rattle.tls.proofs.building.groups.Tie as tie
 within : (c : tie.Start) → c .args .profile .«group_count» ≤ length (c .args .profile .«supported_groups»)
 within c = omega (arith, (arrays (c .args .profile) (c .good .1 .0)) .groups, c .pre .0 .groups)
 
-sub-ext-u16-list : tie.Need-sub-ext-u16-list
-sub-ext-u16-list c = search needs
-
-part-ext-u16-list-start : tie.Need-part-ext-u16-list-start
-part-ext-u16-list-start c = search needs
-
 part-ext-u16-list-end : tie.Need-part-ext-u16-list-end
 part-ext-u16-list-end c = within (c .before .before .before .before)
 
@@ -26,9 +20,6 @@ ext-u16-list-requires c κs =
     let start = c .before .before .before .before .before in
     words-room 10 (start .args .profile .«supported_groups») (within start) (omega (arith, start .pre .0 .groups)) (start .pre .1)
 
-same-length : tie.Need-same-length
-same-length c = search needs
-
 returns : tie.Need-returns
 returns c = rw (sub-zero (c .before .before .before .before .before .before .before .before .args .profile .«group_count»)) at (c .before .before .ext-u16-list .ensures)
 
@@ -36,9 +27,9 @@ pub groups-spec : {M : Type 1} → statement M
 groups-spec =
     tie.close
     (tie.spec
-    sub-ext-u16-list
-    part-ext-u16-list-start
+    (λ c. search needs)  -- sub-ext-u16-list
+    (λ c. search needs)  -- part-ext-u16-list-start
     part-ext-u16-list-end
     ext-u16-list-requires
-    same-length
+    (λ c. search needs)  -- same-length
     returns)

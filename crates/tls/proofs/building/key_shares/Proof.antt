@@ -6,12 +6,6 @@ use Rattle.tls.proofs.BuildLaws.{arrays}
 use Rattle.tls.proofs.building.key_shares.Statement.{statement}
 use Rattle.tls.proofs.building.key_shares.Tie as tie
 
-sub-ext-key-share : tie.Need-sub-ext-key-share
-sub-ext-key-share c = search needs
-
-part-ext-key-share-start : tie.Need-part-ext-key-share-start
-part-ext-key-share-start c = search needs
-
 part-ext-key-share-end : tie.Need-part-ext-key-share-end
 part-ext-key-share-end c =
     let start = c .before .before .before .before .before in
@@ -22,9 +16,6 @@ ext-key-share-requires c κs =
     let start = c .before .before .before .before .before .before in
     rw (sub-zero (start .args .profile .«share_count»)) (start .pre .1)
 
-same-length : tie.Need-same-length
-same-length c = search needs
-
 returns : tie.Need-returns
 returns c = rw (sub-zero (c .before .before .before .before .before .before .before .before .before .args .profile .«share_count»)) at (c .before .before .ext-key-share .ensures)
 
@@ -32,9 +23,9 @@ pub key-shares-spec : {M : Type 1} → statement M
 key-shares-spec =
     tie.close
     (tie.spec
-    sub-ext-key-share
-    part-ext-key-share-start
+    (λ c. search needs)  -- sub-ext-key-share
+    (λ c. search needs)  -- part-ext-key-share-start
     part-ext-key-share-end
     ext-key-share-requires
-    same-length
+    (λ c. search needs)  -- same-length
     returns)

@@ -17,9 +17,6 @@ same-entries c =
     let start = c .before .before .before .before in
     listed-parameters (start .args .profile) (start .pre .0) (c .parameters .result) (c .parameters .ensures)
 
-parameters-requires : tie.Need-parameters-requires
-parameters-requires c κs = search needs
-
 ext-quic-tp-requires : tie.Need-ext-quic-tp-requires
 ext-quic-tp-requires c κs =
     let start = c .before .before .before .before .before in
@@ -32,11 +29,14 @@ ext-quic-tp-requires c κs =
       rw (same-entries (c .before)) (start .pre .2),
     )
 
-same-length : tie.Need-same-length
-same-length c = search needs
-
 returns : tie.Need-returns
 returns c = rw (same-entries (c .before .before .before .before)) at (c .before .before .ext-quic-tp .ensures)
 
 pub parameters-spec : {M : Type 1} → statement M
-parameters-spec = tie.close (tie.spec parameters-requires ext-quic-tp-requires same-length returns)
+parameters-spec =
+    tie.close
+    (tie.spec
+    (λ c κs. search needs)  -- parameters-requires
+    ext-quic-tp-requires
+    (λ c. search needs)  -- same-length
+    returns)

@@ -13,12 +13,6 @@ use Rattle.tls.proofs.building.versions.Tie as tie
 within : (c : tie.Start) → c .args .profile .«version_count» ≤ length (c .args .profile .«supported_versions»)
 within c = omega (arith, (arrays (c .args .profile) (c .good .1 .0)) .versions, c .pre .0 .versions)
 
-sub-ext-supported-versions : tie.Need-sub-ext-supported-versions
-sub-ext-supported-versions c = search needs
-
-part-ext-supported-versions-start : tie.Need-part-ext-supported-versions-start
-part-ext-supported-versions-start c = search needs
-
 part-ext-supported-versions-end : tie.Need-part-ext-supported-versions-end
 part-ext-supported-versions-end c = within (c .before .before .before .before)
 
@@ -30,9 +24,6 @@ ext-supported-versions-requires c κs =
     let long = length-lent list (within start) in
     (rw (sub-zero n) (omega (arith, start .pre .1, length-supported-versions (take n list))), omega (arith, long, start .pre .0 .versions))
 
-same-length : tie.Need-same-length
-same-length c = search needs
-
 returns : tie.Need-returns
 returns c = rw (sub-zero (c .before .before .before .before .before .before .before .before .args .profile .«version_count»)) at (c .before .before .ext-supported-versions .ensures)
 
@@ -40,9 +31,9 @@ pub versions-spec : {M : Type 1} → statement M
 versions-spec =
     tie.close
     (tie.spec
-    sub-ext-supported-versions
-    part-ext-supported-versions-start
+    (λ c. search needs)  -- sub-ext-supported-versions
+    (λ c. search needs)  -- part-ext-supported-versions-start
     part-ext-supported-versions-end
     ext-supported-versions-requires
-    same-length
+    (λ c. search needs)  -- same-length
     returns)

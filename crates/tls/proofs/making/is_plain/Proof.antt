@@ -20,18 +20,6 @@ abbrev μ-loop : tie.MeasureT-loop
 loop-holds : tie.Need-loop-holds Inv-loop μ-loop
 loop-holds c = (omega arith, plain-none)
 
-shared-slice-read-plain : tie.Need-shared-slice-read-plain Inv-loop μ-loop
-shared-slice-read-plain c = search needs
-
-shared-slice-read-plain-2 : tie.Need-shared-slice-read-plain-2 Inv-loop μ-loop
-shared-slice-read-plain-2 c = search needs
-
-add-i : tie.Need-add-i Inv-loop μ-loop
-add-i c = omega arith
-
-loop-less : tie.Need-loop-less Inv-loop μ-loop
-loop-less c = omega arith
-
 loop-again : tie.Need-loop-again Inv-loop μ-loop
 loop-again c =
     let args = c .before .before .before .before .args in
@@ -52,9 +40,9 @@ is-plain-spec =
     Inv-loop
     μ-loop
     loop-holds
-    shared-slice-read-plain
-    shared-slice-read-plain-2
-    add-i
-    loop-less
+    (λ c. search needs)  -- shared-slice-read-plain
+    (λ c. search needs)  -- shared-slice-read-plain-2
+    (λ c. omega arith)  -- add-i
+    (λ c. omega arith)  -- loop-less
     loop-again
     returns)

@@ -27,9 +27,6 @@ room c =
     let p = profileOf (args .profile) in
     hello-room (args .profile) name scid tape (start .pre) (name-refusal .ensures) (if1 .left) (room-refusal .ensures) (c .before .if2 .left) (suffices p name scid tape) (hello-fits p name scid tape)
 
-name-refusal-requires : tie.Need-name-refusal-requires
-name-refusal-requires c κs = search needs
-
 returns : tie.Need-returns
 returns c =
     let args = c .before .before .before .before .before .before .args in
@@ -50,9 +47,6 @@ returns-2 c =
 put-hello-requires : tie.Need-put-hello-requires
 put-hello-requires c κs = room c
 
-same-length : tie.Need-same-length
-same-length c = search needs
-
 returns-3 : tie.Need-returns-3
 returns-3 c =
     let name-refusal = c .before .before .before .before .before .before .before .name-refusal in
@@ -67,10 +61,10 @@ pub make-with-spec : {M : Type 1} → statement M
 make-with-spec =
     tie.close
     (tie.spec
-    name-refusal-requires
+    (λ c κs. search needs)  -- name-refusal-requires
     returns
     room-refusal-requires
     returns-2
     put-hello-requires
-    same-length
+    (λ c. search needs)  -- same-length
     returns-3)

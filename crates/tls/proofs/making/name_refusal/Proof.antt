@@ -14,9 +14,6 @@ returns-2 : tie.Need-returns-2
 unfolding askName
 returns-2 c = simp (le-leb _ _ (c .before .if1 .left), lt-leb _ _ (c .if2 .taken))
 
-is-plain-requires : tie.Need-is-plain-requires
-is-plain-requires c κs = search needs
-
 returns-3 : tie.Need-returns-3
 unfolding askName
 returns-3 c =
@@ -32,4 +29,11 @@ returns-4 c =
     simp (le-leb _ _ (if1 .left), le-leb _ _ (if2 .left), sym (c .before .is-plain .ensures) ∙ c .if3 .left)
 
 pub name-refusal-spec : {M : Type 1} → statement M
-name-refusal-spec = tie.close (tie.spec returns returns-2 is-plain-requires returns-3 returns-4)
+name-refusal-spec =
+    tie.close
+    (tie.spec
+    returns
+    returns-2
+    (λ c κs. search needs)  -- is-plain-requires
+    returns-3
+    returns-4)

@@ -36,21 +36,6 @@ chosen c =
     let put = c .before .put-in-order .ensures in
     ordered (args .profile) (start .pre .sound) (fifteen start) (drawn (c .before .before .before)) (now (args .tape)) (put .1) (postOf 0 (args .profile .«extension_count» - 0) firstPlaces) (put .0)
 
-session-length-requires : tie.Need-session-length-requires
-session-length-requires c κs = search needs
-
-add-drawn : tie.Need-add-drawn
-add-drawn c = search needs
-
-sub-put-in-order : tie.Need-sub-put-in-order
-sub-put-in-order c = search needs
-
-part-order-start : tie.Need-part-order-start
-part-order-start c = search needs
-
-part-order-end : tie.Need-part-order-end
-part-order-end c = search needs
-
 put-in-order-requires : tie.Need-put-in-order-requires
 put-in-order-requires c κs =
     let start = c .before .before .before .before .before .before in
@@ -69,15 +54,6 @@ part-build-extensions-start c =
     let start = c .before .before .before .before .before .before .before .before in
     let args = start .args in
     block-long (args .profile) (now (args .name)) (now (args .scid)) (now (args .tape)) (start .pre)
-
-part-build-extensions-end : tie.Need-part-build-extensions-end
-part-build-extensions-end c = search needs
-
-sub-build-extensions-2 : tie.Need-sub-build-extensions-2
-sub-build-extensions-2 c = search needs
-
-part-build-extensions-start-2 : tie.Need-part-build-extensions-start-2
-part-build-extensions-start-2 c = search needs
 
 part-build-extensions-end-2 : tie.Need-part-build-extensions-end-2
 part-build-extensions-end-2 c =
@@ -113,9 +89,6 @@ add-t12 c =
     let args = start .args in
     omega (arith, block-small (args .profile) (now (args .name)) (now (args .scid)) (now (args .tape)) (chosen (c .before .before .before .before .before .before .before .before .before .before .before .before)) (now (args .out)) (start .pre) (build-extensions .ensures))
 
-same-length : tie.Need-same-length
-same-length c = search needs
-
 returns : tie.Need-returns
 returns c =
     let build-extensions = c .before .before .before .before .before .before .before .before .build-extensions in
@@ -128,21 +101,21 @@ pub put-block-spec : {M : Type 1} → statement M
 put-block-spec =
     tie.close
     (tie.spec
-    session-length-requires
-    add-drawn
-    sub-put-in-order
-    part-order-start
-    part-order-end
+    (λ c κs. search needs)  -- session-length-requires
+    (λ c. search needs)  -- add-drawn
+    (λ c. search needs)  -- sub-put-in-order
+    (λ c. search needs)  -- part-order-start
+    (λ c. search needs)  -- part-order-end
     put-in-order-requires
     sub-build-extensions
     part-build-extensions-start
-    part-build-extensions-end
-    sub-build-extensions-2
-    part-build-extensions-start-2
+    (λ c. search needs)  -- part-build-extensions-end
+    (λ c. search needs)  -- sub-build-extensions-2
+    (λ c. search needs)  -- part-build-extensions-start-2
     part-build-extensions-end-2
     build-extensions-requires
     cast-w16
     w16-requires
     add-t12
-    same-length
+    (λ c. search needs)  -- same-length
     returns)

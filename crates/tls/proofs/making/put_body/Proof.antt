@@ -30,9 +30,6 @@ part-put-block-start c =
     let args = start .args in
     place-within (fields-stand (args .profile) (now (args .name)) (now (args .scid)) (now (args .tape)) (start .pre) (put-fields .ensures))
 
-part-put-block-end : tie.Need-part-put-block-end
-part-put-block-end c = search needs
-
 put-block-requires : tie.Need-put-block-requires
 put-block-requires c κs =
     let put-fields = c .before .before .before .put-fields in
@@ -49,9 +46,6 @@ add-t11 c =
     let all = body-put (args .profile) (now (args .name)) (now (args .scid)) (now (args .tape)) (start .pre) (put-fields .ensures) (put-block .ensures) in
     omega (arith, all .put .count, start .pre .has .small)
 
-same-length : tie.Need-same-length
-same-length c = search needs
-
 returns : tie.Need-returns
 returns c =
     let put-fields = c .before .before .before .before .before .before .before .put-fields in
@@ -67,8 +61,8 @@ put-body-spec =
     put-fields-requires
     sub-put-block
     part-put-block-start
-    part-put-block-end
+    (λ c. search needs)  -- part-put-block-end
     put-block-requires
     add-t11
-    same-length
+    (λ c. search needs)  -- same-length
     returns)

@@ -34,9 +34,6 @@ part-put-body-start c =
     let args = start .args in
     hello-long (args .profile) (now (args .name)) (now (args .scid)) (now (args .tape)) (start .pre)
 
-part-put-body-end : tie.Need-part-put-body-end
-part-put-body-end c = search needs
-
 put-body-requires : tie.Need-put-body-requires
 put-body-requires c κs =
     let start = c .before .before .before .before .before in
@@ -55,9 +52,6 @@ sub-w24 c = place-within (written c)
 
 part-w24-start : tie.Need-part-w24-start
 part-w24-start c = place-within (written c)
-
-part-w24-end : tie.Need-part-w24-end
-part-w24-end c = search needs
 
 cast-w24 : tie.Need-cast-w24
 cast-w24 c =
@@ -78,9 +72,6 @@ add-t8 c =
     let args = start .args in
     omega (arith, body-small (args .profile) (now (args .name)) (now (args .scid)) (now (args .tape)) (now (args .out)) (start .pre) (put-body .ensures))
 
-same-length : tie.Need-same-length
-same-length c = search needs
-
 returns : tie.Need-returns
 returns c =
     let w24 = c .before .before .before .w24 in
@@ -97,14 +88,14 @@ put-hello-spec =
     (tie.spec
     sub-put-body
     part-put-body-start
-    part-put-body-end
+    (λ c. search needs)  -- part-put-body-end
     put-body-requires
     w8-requires
     sub-w24
     part-w24-start
-    part-w24-end
+    (λ c. search needs)  -- part-w24-end
     cast-w24
     w24-requires
     add-t8
-    same-length
+    (λ c. search needs)  -- same-length
     returns)

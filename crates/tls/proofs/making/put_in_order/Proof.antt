@@ -10,9 +10,6 @@ shuffle-requires c κs =
     let pre = c .before .before .before .before .pre in
     (pre .0, rw (c .before .if1 .taken) at (pre .1))
 
-same-length : tie.Need-same-length
-same-length c = search needs
-
 returns : tie.Need-returns
 returns c =
     let if1 = c .before .before .before .before .if1 in
@@ -23,4 +20,10 @@ returns-2 : tie.Need-returns-2
 returns-2 c = rw (c .if1 .left) (omega arith, refl)
 
 pub put-in-order-spec : {M : Type 1} → statement M
-put-in-order-spec = tie.close (tie.spec shuffle-requires same-length returns returns-2)
+put-in-order-spec =
+    tie.close
+    (tie.spec
+    shuffle-requires
+    (λ c. search needs)  -- same-length
+    returns
+    returns-2)

@@ -13,24 +13,6 @@ use borrow.Author.Needs.{needs}
 use Rattle.tls.proofs.making.put_random.Statement.{statement}
 use Rattle.tls.proofs.making.put_random.Tie as tie
 
-w16-requires : tie.Need-w16-requires
-w16-requires c κs = search needs
-
-sub-rand-bytes : tie.Need-sub-rand-bytes
-sub-rand-bytes c = search needs
-
-part-rand-bytes-start : tie.Need-part-rand-bytes-start
-part-rand-bytes-start c = search needs
-
-part-rand-bytes-end : tie.Need-part-rand-bytes-end
-part-rand-bytes-end c = search needs
-
-rand-bytes-requires : tie.Need-rand-bytes-requires
-rand-bytes-requires c κs = search needs
-
-same-length : tie.Need-same-length
-same-length c = search needs
-
 returns : tie.Need-returns
 returns c =
     let w16 = c .before .before .before .before .before .before .w16 in
@@ -46,10 +28,10 @@ pub put-random-spec : {M : Type 1} → statement M
 put-random-spec =
     tie.close
     (tie.spec
-    w16-requires
-    sub-rand-bytes
-    part-rand-bytes-start
-    part-rand-bytes-end
-    rand-bytes-requires
-    same-length
+    (λ c κs. search needs)  -- w16-requires
+    (λ c. search needs)  -- sub-rand-bytes
+    (λ c. search needs)  -- part-rand-bytes-start
+    (λ c. search needs)  -- part-rand-bytes-end
+    (λ c κs. search needs)  -- rand-bytes-requires
+    (λ c. search needs)  -- same-length
     returns)

@@ -13,27 +13,6 @@ use borrow.Author.Needs.{needs}
 use Rattle.tls.proofs.making.put_session.Statement.{statement}
 use Rattle.tls.proofs.making.put_session.Tie as tie
 
-cast-w8 : tie.Need-cast-w8
-cast-w8 c = search needs
-
-w8-requires : tie.Need-w8-requires
-w8-requires c κs = search needs
-
-sub-rand-bytes : tie.Need-sub-rand-bytes
-sub-rand-bytes c = search needs
-
-part-rand-bytes-start : tie.Need-part-rand-bytes-start
-part-rand-bytes-start c = search needs
-
-part-rand-bytes-end : tie.Need-part-rand-bytes-end
-part-rand-bytes-end c = search needs
-
-rand-bytes-requires : tie.Need-rand-bytes-requires
-rand-bytes-requires c κs = search needs
-
-same-length : tie.Need-same-length
-same-length c = search needs
-
 returns : tie.Need-returns
 returns c =
     let w8 = c .before .before .before .before .before .before .w8 in
@@ -50,11 +29,11 @@ pub put-session-spec : {M : Type 1} → statement M
 put-session-spec =
     tie.close
     (tie.spec
-    cast-w8
-    w8-requires
-    sub-rand-bytes
-    part-rand-bytes-start
-    part-rand-bytes-end
-    rand-bytes-requires
-    same-length
+    (λ c. search needs)  -- cast-w8
+    (λ c κs. search needs)  -- w8-requires
+    (λ c. search needs)  -- sub-rand-bytes
+    (λ c. search needs)  -- part-rand-bytes-start
+    (λ c. search needs)  -- part-rand-bytes-end
+    (λ c κs. search needs)  -- rand-bytes-requires
+    (λ c. search needs)  -- same-length
     returns)

@@ -36,27 +36,6 @@ written c =
     let first = first-written count rest room (filled (length-digits 256 2 (2 * length suites)) (w16 .ensures)) in
     writes (words suites) (1 ∷ 0 ∷ []) first (put-words .ensures)
 
-mul-w16 : tie.Need-mul-w16
-mul-w16 c = search needs
-
-cast-w16 : tie.Need-cast-w16
-cast-w16 c = search needs
-
-w16-requires : tie.Need-w16-requires
-w16-requires c κs = search needs
-
-sub-put-words : tie.Need-sub-put-words
-sub-put-words c = search needs
-
-part-put-words-start : tie.Need-part-put-words-start
-part-put-words-start c = search needs
-
-part-put-words-end : tie.Need-part-put-words-end
-part-put-words-end c = search needs
-
-put-words-requires : tie.Need-put-words-requires
-put-words-requires c κs = search needs
-
 add-a : tie.Need-add-a
 add-a c =
     let put-words = c .before .before .put-words in
@@ -70,12 +49,6 @@ sub-put-bytes c = place-within (written c)
 part-put-bytes-start : tie.Need-part-put-bytes-start
 part-put-bytes-start c = place-within (written c)
 
-part-put-bytes-end : tie.Need-part-put-bytes-end
-part-put-bytes-end c = search needs
-
-slice-aggregate-put-bytes : tie.Need-slice-aggregate-put-bytes
-slice-aggregate-put-bytes c = search needs
-
 put-bytes-requires : tie.Need-put-bytes-requires
 put-bytes-requires c κs = next-room (1 ∷ 0 ∷ []) [] (written (c .before .before)) refl
 
@@ -87,9 +60,6 @@ add-result c =
     let put-bytes = c .before .before .put-bytes in
     omega (arith, put-words .ensures .count, length-words (now (args .suites)), pre .1, put-bytes .ensures .count)
 
-same-length : tie.Need-same-length
-same-length c = search needs
-
 returns : tie.Need-returns
 returns c =
     let args = c .before .before .before .before .before .before .before .before .before .before .before .before .before .before .before .args in
@@ -100,19 +70,19 @@ pub put-suites-spec : {M : Type 1} → statement M
 put-suites-spec =
     tie.close
     (tie.spec
-    mul-w16
-    cast-w16
-    w16-requires
-    sub-put-words
-    part-put-words-start
-    part-put-words-end
-    put-words-requires
+    (λ c. search needs)  -- mul-w16
+    (λ c. search needs)  -- cast-w16
+    (λ c κs. search needs)  -- w16-requires
+    (λ c. search needs)  -- sub-put-words
+    (λ c. search needs)  -- part-put-words-start
+    (λ c. search needs)  -- part-put-words-end
+    (λ c κs. search needs)  -- put-words-requires
     add-a
     sub-put-bytes
     part-put-bytes-start
-    part-put-bytes-end
-    slice-aggregate-put-bytes
+    (λ c. search needs)  -- part-put-bytes-end
+    (λ c. search needs)  -- slice-aggregate-put-bytes
     put-bytes-requires
     add-result
-    same-length
+    (λ c. search needs)  -- same-length
     returns)
