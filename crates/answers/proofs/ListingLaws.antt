@@ -6,13 +6,13 @@ use mathlib.Core.Option.{Option, some}
 use native.Mathlib.Omega.{arith}
 use lib.ListN.{length}
 use borrow.Author.Tests.{ne-eqb, le-leb}
-use Rattle.stops.specs.Stops.{Stopped, stopped}
+use Rattle.wire.specs.Stops.{Stopped, stopped}
 use Rattle.fingerprint_stops.specs.Stops.{stoppedAt}
-use Rattle.listing.specs.Text.{verdictParts, stopFrom, Listed}
+use Rattle.show_hello.specs.Text.{verdictParts, stopFrom, Listed}
 use Rattle.frames.specs.Join.{limit, roomy}
 use Rattle.frames.specs.Stops.{joinStops, joinerStops}
-use Rattle.frame_listing.specs.Frames.{FramesListed}
-use Rattle.answers.specs.Listings.{Shows, ShowsFrames}
+use Rattle.show_frames.specs.Frames.{FramesListed}
+use Rattle.answers.specs.Listings.{ShowsHello, ShowsFrames}
 use Rattle.answers.specs.declared.Said.the-variants as said
 use Rattle.answers.proofs.AnswerLaws.{says-result}
 
@@ -20,7 +20,7 @@ use Rattle.answers.proofs.AnswerLaws.{says-result}
 pub stop-numbered : (number place : ℕ) → 1 ≤ number → some (stopped number place) ≡ stopFrom number place
 stop-numbered number place h = rw (ne-eqb number 0 (λ e. absurd (omega (arith, e))))
 
-pub shows-listing : (h : List ℕ) (stop : Option Stopped) (n : ℕ) (old new : List ℕ) → stop ≡ stoppedAt h → Listed h stop n old new → Shows h (said.Answer n) old new
+pub shows-listing : (h : List ℕ) (stop : Option Stopped) (n : ℕ) (old new : List ℕ) → stop ≡ stoppedAt h → Listed h stop n old new → ShowsHello h (said.Answer n) old new
 shows-listing h stop n old new e l =
     let l′ = subst (λ (s : Option Stopped). Listed h s n old new) e l in
     record { lines = l′ .lines; are = l′ .are; says = says-result (verdictParts 4 (stoppedAt h) ++ l′ .lines) n old new (l′ .is) }

@@ -5,13 +5,13 @@ use mathlib.Core.List.{List, _++_}
 use lib.ListN.{length}
 use Rattle.frames.specs.Stops.{joinStops}
 use Rattle.fingerprint_stops.specs.Stops.{stoppedAt}
-use Rattle.listing.specs.Text.{allRows, verdictParts, LinesParts}
-use Rattle.frame_listing.specs.Frames.{rowsOf, room, shownRows}
+use Rattle.show_hello.specs.Text.{allRows, verdictParts, LinesParts}
+use Rattle.show_frames.specs.Frames.{rowsOf, room, shownRows}
 use Rattle.answers.specs.Said.{plain, saidCount, Says}
 use Rattle.answers.specs.declared.Said.{Said}
 
 -- `show HELLO`: the verdict, a line for each row of the hello, and the last
-pub record Shows (h : List ℕ) (r : Said) (old new : List ℕ) : Type 0 where
+pub record ShowsHello (h : List ℕ) (r : Said) (old new : List ℕ) : Type 0 where
   pub lines : List (List ℕ)
   pub are : LinesParts 4 h (stoppedAt h) (allRows h) lines
   pub says : Says plain (verdictParts 4 (stoppedAt h) ++ lines) r old new

@@ -12,17 +12,15 @@ ghost use Rattle.reports.specs.Lines.{nameAnswer, setText};
 ghost use lib.ListN.{length};
 ghost use Rattle.answers.specs.Said.{plain, hands, plainly, handing, Says, Hands};
 ghost use Rattle.answers.specs.Answers.{sizeParts, writeParts, readParts, makeParts, joinParts, framesParts, splitParts, splitting, reportAnswer, alikeParts};
-ghost use Rattle.answers.specs.Listings.{Shows, ShowsFrames};
+ghost use Rattle.answers.specs.Listings.{ShowsHello, ShowsFrames};
 use fingerprint::reading::extension_set;
 use fingerprint::reading::name_or;
 use fingerprint::reading::parse_clienthello;
 use fingerprint_stops::stopped_at;
-use frame_listing::put_frame_listing;
 use frames::cutting::Cut;
 use frames::joining::Joined;
 use frames::joining::LIMIT;
 use frames::joining::joiner_stopped_at;
-use listing::put_listing;
 use records::Next;
 use reports::put_name_answer;
 use reports::put_report;
@@ -34,10 +32,12 @@ use script::writing::put_number_and_two;
 use script::writing::put_text;
 use script::writing::put_two_numbers;
 use script::writing::put_two_numbers_and_bytes;
-use stops::Stop;
+use show_frames::put_frame_listing;
+use show_hello::put_listing;
 use tls::Made;
 use varint::Got;
 use varint::Width;
+use wire::Stop;
 
 // Why a line is an error.
 pub enum Fault {
@@ -230,7 +230,7 @@ pub fn say_alike(a: &[u8], b: &[u8], out: &mut [u8]) -> Said
 
 // show HELLO
 pub fn say_show(hello: &[u8], out: &mut [u8]) -> Said
-    ensures { λ r. ⌜ Shows (now (hello .entry)) r (now (out .entry)) (now (out .exit)) ⌝ }
+    ensures { λ r. ⌜ ShowsHello (now (hello .entry)) r (now (out .entry)) (now (out .exit)) ⌝ }
 {
     match stopped_at(hello) {
         Stop::Nowhere => Said::Answer(put_listing(out, hello, 0, 0)),

@@ -7,10 +7,10 @@ use crate::operands::read_operand;
 use crate::operands::room;
 use answers::Fault;
 use answers::Said;
-use lines::words::has_operands;
-use lines::words::word_at;
 use script::reading::Number;
 use script::reading::read_number;
+use script::words::has_operands;
+use script::words::word_at;
 
 // join FRAMES OUT MARKS, an operand after the other
 pub fn join(line: &[u8], last: &mut [u8], kept: usize, out: &mut [u8]) -> Said

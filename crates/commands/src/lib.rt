@@ -11,7 +11,7 @@ ghost use lib.ListN.{length};
 ghost use Rattle.commands.specs.Bounds.{Fits};
 use answers::Fault;
 use answers::Said;
-use lines::words::word_at;
+use script::words::word_at;
 
 // Answers a line. The first bytes of `last`, `kept` of them, are those of the last answer that handed some back.
 pub fn command(line: &[u8], last: &mut [u8], kept: usize, out: &mut [u8]) -> Said

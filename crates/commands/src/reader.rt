@@ -7,8 +7,8 @@ use crate::operands::read_operand;
 use crate::operands::room;
 use answers::Fault;
 use answers::Said;
-use lines::words::has_operands;
-use lines::words::word_at;
+use script::words::has_operands;
+use script::words::word_at;
 
 // report HELLO
 pub fn report(line: &[u8], last: &[u8], out: &mut [u8]) -> Said

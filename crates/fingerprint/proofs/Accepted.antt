@@ -82,7 +82,7 @@ read-numbered h = numbered-then (readFields h) readExtensions (before-numbered h
 
 -- ---- what is handed out
 
-pub record Reported (h : List ℕ) : Type 0 where
+pub record ReportedExactly (h : List ℕ) : Type 0 where
   -- a well-formed hello: 0, and its report
   pub accepted : (v : ClientHello) → Encodes v h → parsedOf (read h) ≡ shown 0 (report v)
   -- 0 is said of well-formed hellos only
@@ -101,7 +101,7 @@ unfolding parsedOf
 refusal-empty (result v) f g = absurd (g v refl)
 refusal-empty (refused n) f g = (n, f, refl)
 
-pub reported-exactly : (h : List ℕ) → Bytes h → Reported h
+pub reported-exactly : (h : List ℕ) → Bytes h → ReportedExactly h
 unfolding parsedOf
 reported-exactly h b =
     record {

@@ -14,7 +14,7 @@ use Rattle.fingerprint_bodies.specs.Forms.{groupOf, idOf}
 use Rattle.fingerprint_lists.proofs.ReadLaws.{length-placed}
 use Rattle.fingerprint.specs.ClientHello.{Extension, ClientHello, typeOf, FormedExtension, WellFormed}
 use Rattle.fingerprint.specs.Report.{numbersIn, namesIn, gathered, blockPlace, report}
-use Rattle.fingerprint.specs.InRange.{Within}
+use Rattle.fingerprint.specs.InRange.{WithinCounts}
 
 -- ---- a list of the extensions of type t, of which each holds at most m
 
@@ -75,7 +75,7 @@ names-few at (unread b) h = omega arith
 
 -- ---- the report
 
-pub within-counts : (v : ClientHello) → WellFormed v → Within (report v)
+pub within-counts : (v : ClientHello) → WellFormed v → WithinCounts (report v)
 unfolding report
 within-counts v h =
     record {

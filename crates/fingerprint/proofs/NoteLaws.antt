@@ -17,13 +17,13 @@ use Rattle.fingerprint_lists.specs.Arrays.{span, placed}
 use Rattle.fingerprint_lists.specs.declared.Span.{Span}
 use Rattle.fingerprint.specs.ClientHello.{Extension, typeOf, encodeExtensions}
 use Rattle.fingerprint.specs.Report.{numbersIn, namesIn, gathered}
-use Rattle.fingerprint.specs.Code.{partOf, slot, nameAt, Shows, Noted}
+use Rattle.fingerprint.specs.Code.{partOf, slot, nameAt, KindShows, Noted}
 use Rattle.fingerprint.proofs.KindLaws.{kind-same, other-type, slot-small, slot-same}
 use Rattle.fingerprint.proofs.GatherLaws.{gathered-other, gathered-new, held}
 
 -- ---- nothing yet
 
-shows-none : (k : Kind) (block : ℕ) → Shows k block [] 0 []
+shows-none : (k : Kind) (block : ℕ) → KindShows k block [] 0 []
 unfolding gathered serverName wordList protocolNames keyShares transportParameters orEmpty bind whole vectorAt numberAt placed allEntries entries
 shows-none name block = refl
 shows-none groups block = refl
@@ -37,7 +37,7 @@ shows-none other block = tt
 -- ---- an extension of another kind
 
 shows-other : (k : Kind) (block : ℕ) (es : List Extension) (e : Extension) (at : ℕ) (bs : List ℕ) → (kind (e .type) ≡ k → ⊥)
-    → Shows k block es at bs → Shows k block (es ++ (e ∷ [])) at bs
+    → KindShows k block es at bs → KindShows k block (es ++ (e ∷ [])) at bs
 unfolding kind
 shows-other name block es e at bs n s = gathered-other namesIn 0x0000 es block e (other-type 0x0000 (e .type) n) ∙ s
 shows-other groups block es e at bs n s = gathered-other numbersIn 0x000a es block e (other-type 0x000a (e .type) n) ∙ s
@@ -58,7 +58,7 @@ module _ (block : ℕ) (es : List Extension) (e : Extension) (at : ℕ) (bs : Li
       let is : e .type ≡ t = kind-same (e .type) t q read in
       gathered-new f t es block at e is (subst (λ (u : ℕ). member u (map typeOf es) ≡ false) is m) p
 
-  shows-new : (k : Kind) → kind (e .type) ≡ k → bodyOf k bs ≡ some (e .body) → Shows k block (es ++ (e ∷ [])) at bs
+  shows-new : (k : Kind) → kind (e .type) ≡ k → bodyOf k bs ≡ some (e .body) → KindShows k block (es ++ (e ∷ [])) at bs
   unfolding bodyOf orEmpty namesIn numbersIn kind
   shows-new name q b =
       only namesIn 0x0000 (λ o. omega (arith, ap slot o)) q

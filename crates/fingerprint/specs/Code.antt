@@ -142,15 +142,15 @@ nameAt at none = []
 nameAt at (some n) = part at n ∷ []
 
 -- what the report has of a kind, from the extensions that begin at a place of the hello, is what the bytes of a body at a place hold
-abbrev pub Shows : Kind → ℕ → List Extension → ℕ → List ℕ → Type 0
-Shows name block es at bs = gathered namesIn 0x0000 block es ≡ nameAt (at + 5) (serverName bs)
-Shows groups block es at bs = gathered numbersIn 0x000a block es ≡ orEmpty (wordList 2 bs)
-Shows algorithms block es at bs = gathered numbersIn 0x000d block es ≡ orEmpty (wordList 2 bs)
-Shows protocols block es at bs = gathered namesIn 0x0010 block es ≡ placed (at + 2) (orEmpty (protocolNames bs))
-Shows versions block es at bs = gathered numbersIn 0x002b block es ≡ orEmpty (wordList 1 bs)
-Shows shares block es at bs = gathered numbersIn 0x0033 block es ≡ map groupOf (orEmpty (keyShares bs))
-Shows parameters block es at bs = gathered numbersIn 0x0039 block es ≡ idsIn bs
-Shows other block es at bs = Unit {0}
+abbrev pub KindShows : Kind → ℕ → List Extension → ℕ → List ℕ → Type 0
+KindShows name block es at bs = gathered namesIn 0x0000 block es ≡ nameAt (at + 5) (serverName bs)
+KindShows groups block es at bs = gathered numbersIn 0x000a block es ≡ orEmpty (wordList 2 bs)
+KindShows algorithms block es at bs = gathered numbersIn 0x000d block es ≡ orEmpty (wordList 2 bs)
+KindShows protocols block es at bs = gathered namesIn 0x0010 block es ≡ placed (at + 2) (orEmpty (protocolNames bs))
+KindShows versions block es at bs = gathered numbersIn 0x002b block es ≡ orEmpty (wordList 1 bs)
+KindShows shares block es at bs = gathered numbersIn 0x0033 block es ≡ map groupOf (orEmpty (keyShares bs))
+KindShows parameters block es at bs = gathered numbersIn 0x0039 block es ≡ idsIn bs
+KindShows other block es at bs = Unit {0}
 
 -- the extension whose header stands at a place
 pub record HeaderFound (h : List ℕ) (at t start end : ℕ) : Type 0 where
@@ -206,7 +206,7 @@ StepAs (step.Refused n) h at known old new = ((done : List Extension) → map ty
 pub record Noted (h : List ℕ) (block : ℕ) (es : List Extension) (k : Kind) (s : Span) : Type 0 where
   pub inside : s .start + s .length ≤ length h
   pub good : 0 < s .length → asked k (partOf h s) ≡ 0
-  pub shows : Shows k block es (s .start) (partOf h s)
+  pub shows : KindShows k block es (s .start) (partOf h s)
 
 -- the parameter ids of these extensions, in an array, and their count
 pub record IdsFound (block : ℕ) (es : List Extension) (n : ℕ) (ids : List ℕ) : Type 0 where
@@ -275,7 +275,7 @@ pub record FoundOf (h : List ℕ) (session : ℕ) (suites : Span) (r : Survey) (
   pub notes : (k : Kind) → Noted h (blockPlace v) (v .extensions) k (noteOf r k)
 
 -- the report of that ClientHello
-pub record Reported (h : List ℕ) (session : ℕ) (suites : Span) (found : Survey) (types ids : List ℕ) (r : Fingerprint) : Type 0 where
+pub record ReportAs (h : List ℕ) (session : ℕ) (suites : Span) (found : Survey) (types ids : List ℕ) (r : Fingerprint) : Type 0 where
   pub is : (v : ClientHello) → FoundOf h session suites found types ids v → r ≡ shown 0 (report v)
 
 -- the number of a type

@@ -61,7 +61,7 @@ pub record Sane (h : List ℕ) (f : Fingerprint) : Type 0 where
 -- ---- The same of the report that the code's one shows
 
 -- each list has its place in its array
-pub record Within (r : Report) : Type 0 where
+pub record WithinCounts (r : Report) : Type 0 where
   pub suites : length (r .cipherSuites) ≤ 64
   pub types : length (r .extensions) ≤ 64
   pub groups : length (r .supportedGroups) ≤ 64
@@ -76,6 +76,6 @@ SniLies h none = Unit {0}
 SniLies h (some p) = Lies h p
 
 pub record InRange (h : List ℕ) (r : Report) : Type 0 where
-  pub counts : Within r
+  pub counts : WithinCounts r
   pub protocols-lie : All (Lies h) (r .alpn)
   pub sni-lies : SniLies h (r .sni)

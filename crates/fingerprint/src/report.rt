@@ -5,7 +5,7 @@ ghost use Prim.Native.Nat.{_+_, _≤_};
 ghost use lib.ListN.{length};
 ghost use Rattle.fingerprint_lists.specs.Arrays.{extType};
 ghost use Rattle.fingerprint.specs.Report.{shown, emptyReport};
-ghost use Rattle.fingerprint.specs.Code.{partOf, nameIn, Readable, Reported};
+ghost use Rattle.fingerprint.specs.Code.{partOf, nameIn, Readable, ReportAs};
 use crate::Fingerprint;
 use crate::Sni;
 use crate::walk::Survey;
@@ -90,7 +90,7 @@ pub fn report(
     ids: [u64; 64],
 ) -> Fingerprint
     requires { ⌜ Readable (now hello) suites found ⌝ }
-    ensures { λ r. ⌜ Reported (now (hello .entry)) session suites found types ids r ⌝ }
+    ensures { λ r. ⌜ ReportAs (now (hello .entry)) session suites found types ids r ⌝ }
 {
     let bodies = found.bodies;
     let suite_list = fingerprint_lists::words_in(part(hello, suites));

@@ -7,9 +7,9 @@ use native.Mathlib.Omega.{arith}
 use borrow.Author.Tests.{le-leb, lt-leb}
 use lib.ListN.{length, drop, length-drop}
 use Rattle.wire.specs.Answer.{Answer, result, refused, IsNumber}
-use Rattle.stops.specs.Stops.{Stopped, stopped, stopOf, Numbered, Within, StopBounds}
-use Rattle.stops.specs.declared.Stop.{Stop}
-use Rattle.stops.specs.declared.Stop.the-variants as stop
+use Rattle.wire.specs.Stops.{Stopped, stopped, stopOf, Numbered, StopWithin, StopBounds}
+use Rattle.wire.specs.declared.Stop.{Stop}
+use Rattle.wire.specs.declared.Stop.the-variants as stop
 use Rattle.fingerprint_lists.specs.declared.Span.{Span}
 use Rattle.fingerprint.specs.ClientHello.{ClientHello}
 use Rattle.fingerprint.specs.Reader.{readFields, read}
@@ -25,7 +25,7 @@ pub stop-bounds : (h : List ℕ) (r : Stop) → stopOf r ≡ stoppedAt h → Sto
 stop-bounds h stop.Nowhere e = tt
 stop-bounds h (stop.At n place) e =
     let numbered = subst (λ (x : Option Stopped). Numbered x (read h)) (sym e) (stopped-numbered h) in
-    (go (read h) numbered (read-numbered h), subst (λ (x : Option Stopped). Within (length h) x) (sym e) (stopped-within h))
+    (go (read h) numbered (read-numbered h), subst (λ (x : Option Stopped). StopWithin (length h) x) (sym e) (stopped-within h))
   where
     go : (a : Answer ClientHello) → Numbered (some (stopped n place)) a → reader.Numbered a → IsNumber n
     go (result v) p q = absurd p

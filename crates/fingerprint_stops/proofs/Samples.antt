@@ -8,7 +8,7 @@ use Rattle.wire.specs.Numbers.{digits, number, numberOn}
 use Rattle.wire.specs.Vectors.{vector}
 use Rattle.wire.specs.Sums.{any, member, distinct}
 use Rattle.varint.specs.Varint.{classAt, readOf}
-use Rattle.stops.specs.Stops.{stopped}
+use Rattle.wire.specs.Stops.{stopped}
 use Rattle.fingerprint_bodies.specs.Entries.{bind, mapped, taken, numberAt, vectorAt, whole, atLeast, atMost, first, entries, allEntries}
 use Rattle.fingerprint_bodies.specs.Body.{kind}
 use Rattle.fingerprint_bodies.specs.Forms.{wordsIn, evenWords, wordList, oneName, someNames, protocolNames, varintAt, oneParameter, transportParameters, bodyOf, idsNew, withinCounts}

@@ -13,7 +13,7 @@ use Rattle.wire.specs.Answer.{Answer, result, refused, ask, andThen}
 use Rattle.wire.specs.Sums.{member}
 use Rattle.wire.proofs.AnswerLaws.{same-result, andThen-result}
 use Rattle.wire.proofs.SumLaws.{and-left}
-use Rattle.stops.specs.Stops.{Stopped, stopped, Numbered, Within}
+use Rattle.wire.specs.Stops.{Stopped, stopped, Numbered, StopWithin}
 use Rattle.fingerprint_bodies.specs.Entries.{Entry, entry, bind, taken, vectorAt, whole, atLeast, atMost}
 use Rattle.fingerprint_bodies.specs.Body.{kind}
 use Rattle.fingerprint_bodies.specs.Forms.{evenWords}
@@ -136,7 +136,7 @@ extension-rest done bs e q =
     let z : p .value .rest ≡ e .rest = ap (λ (y : Entry Extension). y .rest) (same-result (entry (a .value) (p .value .rest)) e (a .after)) in
     omega (arith, extension-length bs (p .value) (p .is), ap length z)
 
-walk-within : (n f at : ℕ) (done : List Extension) (bs : List ℕ) → at + length bs ≤ n → Within n (walkStops f at done bs)
+walk-within : (n f at : ℕ) (done : List Extension) (bs : List ℕ) → at + length bs ≤ n → StopWithin n (walkStops f at done bs)
 unfolding walkStops
 walk-within n zero at done bs h = tt
 walk-within n (suc f) at done [] h = tt
@@ -144,8 +144,8 @@ walk-within n (suc f) at done (b ∷ bs) h =
     go (extension done (b ∷ bs)) refl (λ e q. walk-within n f (at + (length (b ∷ bs) - length (e .rest))) (done ++ (e .value ∷ [])) (e .rest) q)
   where
     go : (a : Answer (Entry Extension)) → extension done (b ∷ bs) ≡ a
-        → ((e : Entry Extension) → at + (length (b ∷ bs) - length (e .rest)) + length (e .rest) ≤ n → Within n (after f at done (b ∷ bs) e))
-        → Within n (stopOr at (extensionPlace (map typeOf done) (oneExtension (b ∷ bs))) a (after f at done (b ∷ bs)))
+        → ((e : Entry Extension) → at + (length (b ∷ bs) - length (e .rest)) + length (e .rest) ≤ n → StopWithin n (after f at done (b ∷ bs) e))
+        → StopWithin n (stopOr at (extensionPlace (map typeOf done) (oneExtension (b ∷ bs))) a (after f at done (b ∷ bs)))
     go (refused k) e next = omega (arith, h, extension-within (map typeOf done) (b ∷ bs))
     go (result x) e next = next x (omega (arith, h, extension-rest done (b ∷ bs) x e))
 
@@ -154,34 +154,34 @@ walk-within n (suc f) at done (b ∷ bs) h =
 module _ (h : List ℕ) where
   extensions-within : (f : Fields)
       → length h ≡ 44 + length (f .sessionId) + 2 * length (f .cipherSuites) + length (f .compression) + length (f .block)
-      → Within (length h) (extensionsStop h f)
+      → StopWithin (length h) (extensionsStop h f)
   unfolding extensionsStop
   extensions-within f long = go (leb (length (f .cipherSuites)) 64) refl
     where
-      go : (b : Bool) → leb (length (f .cipherSuites)) 64 ≡ b → Within (length h) (counted h f b)
+      go : (b : Bool) → leb (length (f .cipherSuites)) 64 ≡ b → StopWithin (length h) (counted h f b)
       go true e = walk-within (length h) (length (f .block)) (length h - length (f .block)) [] (f .block) (omega (arith, long))
       go false e = omega (arith, long, leb-false (length (f .cipherSuites)) 64 e)
 
-  body-stop : 1 ≤ length h → Within (length h) (stopsOf h (readBody (drop 1 h)))
+  body-stop : 1 ≤ length h → StopWithin (length h) (stopsOf h (readBody (drop 1 h)))
   unfolding readBody headPlace
   body-stop there = go (whole 3 (drop 1 h)) refl
     where
       inner : (body : List ℕ) → whole 3 (drop 1 h) ≡ some body → (x : Option Fields) → fields body ≡ x
-          → Within (length h) (stopsOf h (inForm x 19 result))
+          → StopWithin (length h) (stopsOf h (inForm x 19 result))
       inner body e none q =
           omega (arith, field-within (drop 4 h), length-drop 4 h, length-drop 1 h, whole-length 3 (drop 1 h) body e)
       inner body e (some f) q = extensions-within f (omega (arith, fields-length body f q, whole-length 3 (drop 1 h) body e, length-drop 1 h))
 
-      go : (x : Option (List ℕ)) → whole 3 (drop 1 h) ≡ x → Within (length h) (stopsOf h (inForm x 18 (λ body. inForm (fields body) 19 result)))
+      go : (x : Option (List ℕ)) → whole 3 (drop 1 h) ≡ x → StopWithin (length h) (stopsOf h (inForm x 18 (λ body. inForm (fields body) 19 result)))
       go none e = there
       go (some body) e = inner body e (fields body) refl
 
-  pub stopped-within : Within (length h) (stoppedAt h)
+  pub stopped-within : StopWithin (length h) (stoppedAt h)
   unfolding stoppedAt readFields headPlace
   stopped-within = go (leb (length h) 16384) refl (leb 1 (length h) && eqb (getD h 0 0) 1) refl
     where
       go : (a : Bool) → leb (length h) 16384 ≡ a → (b : Bool) → leb 1 (length h) && eqb (getD h 0 0) 1 ≡ b
-          → Within (length h) (stopsOf h (ask a 16 (ask b 17 (readBody (drop 1 h)))))
+          → StopWithin (length h) (stopsOf h (ask a 16 (ask b 17 (readBody (drop 1 h)))))
       go false e b q = omega (arith, leb-false (length h) 16384 e)
       go true e false q = omega arith
       go true e true q = body-stop (leb-true 1 (length h) (and-left (leb 1 (length h)) (eqb (getD h 0 0) 1) q))

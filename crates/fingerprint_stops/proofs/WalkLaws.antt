@@ -13,7 +13,7 @@ use lib.Dec.{eqb}
 use borrow.Author.Tests.{eq-eqb, ne-eqb}
 use Rattle.wire.specs.Answer.{refused}
 use Rattle.wire.specs.Sums.{member}
-use Rattle.stops.specs.Stops.{Stopped, stopped}
+use Rattle.wire.specs.Stops.{Stopped, stopped}
 use Rattle.fingerprint_bodies.specs.Body.{Kind, kind}
 use Rattle.fingerprint_bodies.specs.Code.{asked}
 use Rattle.fingerprint_parameters.specs.Code.{Marked}

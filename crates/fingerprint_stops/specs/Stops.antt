@@ -9,7 +9,7 @@ use lib.ListN.{length, drop}
 use lib.Dec.{eqb, leb, ltb}
 use Rattle.wire.specs.Answer.{Answer, result, refused}
 use Rattle.wire.specs.Sums.{member}
-use Rattle.stops.specs.Stops.{Stopped, stopped}
+use Rattle.wire.specs.Stops.{Stopped, stopped}
 use Rattle.fingerprint_bodies.specs.Entries.{Entry, bind, taken, vectorAt, atLeast, atMost}
 use Rattle.fingerprint_bodies.specs.Body.{Kind, Parameter, kind, name, groups, algorithms, protocols, versions, shares, parameters, other}
 use Rattle.fingerprint_bodies.specs.Forms.{evenWords, oneName, oneShare, oneParameter, idOf}

@@ -7,7 +7,7 @@ ghost use Prim.Native.Nat.{_-_, _≤_};
 ghost use mathlib.Core.Path.{_≡_};
 ghost use mathlib.Core.List.{[]};
 ghost use lib.ListN.{length, take, drop};
-ghost use Rattle.stops.specs.Stops.{stopOf, StopBounds};
+ghost use Rattle.wire.specs.Stops.{stopOf, StopBounds};
 ghost use Rattle.fingerprint.specs.Reader.{oneExtension};
 ghost use Rattle.fingerprint_stops.specs.Stops.{stoppedAt, walkStops, extensionPlace};
 use body::in_body;
@@ -19,7 +19,7 @@ use fingerprint::walk::Step;
 use fingerprint::walk::among;
 use fingerprint::walk::extension;
 use fingerprint::walk::read_header;
-use stops::Stop;
+use wire::Stop;
 
 // The number and the place of a refusal, for any bytes; nowhere for a hello that is accepted.
 pub fn stopped_at(hello: &[u8]) -> Stop

@@ -9,7 +9,7 @@ use lib.ListN.{length, take, drop, replicate}
 use lib.Dec.{lit≤}
 use Rattle.wire.specs.Answer.{result, refused, IsNumber}
 use Rattle.wire.proofs.AnswerLaws.{apart, same-result}
-use Rattle.stops.specs.Stops.{stopped}
+use Rattle.wire.specs.Stops.{stopped}
 use Rattle.frames.specs.Frame.{Piece}
 use Rattle.frames.specs.Stream.{gapless, stream}
 use Rattle.frames.specs.Join.{limit, close, join}

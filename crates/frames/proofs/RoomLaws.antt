@@ -10,7 +10,7 @@ use borrow.Author.Tests.{le-leb, lt-leb, leb-true}
 use Rattle.wire.specs.Answer.{Answer, result, refused}
 use Rattle.wire.proofs.AnswerLaws.{apart}
 use Rattle.wire.proofs.SumLaws.{and-left, and-right}
-use Rattle.stops.specs.declared.Stop.the-variants as stop
+use Rattle.wire.specs.declared.Stop.the-variants as stop
 use Rattle.frames.specs.Join.{limit, join, roomy, joinOf, padded, outAfter, marksAfter, Joins}
 use Rattle.frames.specs.Stops.{joinerStops, StopsAt}
 use Rattle.frames.specs.Buffers.{Joining, Walks}

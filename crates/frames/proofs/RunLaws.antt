@@ -8,7 +8,7 @@ use lib.ListN.{length, drop, length-drop}
 use lib.Seq.{drop-drop}
 use Rattle.wire.specs.Answer.{result, refused, andThen}
 use Rattle.wire.proofs.AnswerLaws.{apart, andThen-agree}
-use Rattle.stops.specs.Stops.{stopped}
+use Rattle.wire.specs.Stops.{stopped}
 use Rattle.frames.specs.Frame.{Piece}
 use Rattle.frames.specs.Read.{Shape, readFrame, extent}
 use Rattle.frames.specs.Join.{placeFrame, placeAll, close, join}

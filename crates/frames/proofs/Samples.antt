@@ -5,7 +5,7 @@ use mathlib.Core.List.{List, [], _∷_, map}
 use mathlib.Core.Option.{Option, none, some}
 use Rattle.wire.specs.Answer.{Answer, result, refused}
 use Rattle.wire.specs.Numbers.{numberOn, number}
-use Rattle.stops.specs.Stops.{Stopped, stopped}
+use Rattle.wire.specs.Stops.{Stopped, stopped}
 use Rattle.varint.specs.Varint.{classAt, readOf}
 use Rattle.frames.specs.Read.{readCrypto, readFrame}
 use Rattle.frames.specs.Stream.{has, byteAt, filled, held, endOf, each, values, agrees, gapless, stream}

@@ -7,7 +7,7 @@ use native.Mathlib.Omega.{arith}
 use lib.ListN.{length, drop, length-drop}
 use Rattle.wire.specs.Answer.{Answer, result, refused, andThen}
 use Rattle.wire.proofs.AnswerLaws.{apart}
-use Rattle.stops.specs.Stops.{Stopped, stopped, Numbered, Within}
+use Rattle.wire.specs.Stops.{Stopped, stopped, Numbered, StopWithin}
 use Rattle.frames.specs.Frame.{Piece}
 use Rattle.frames.specs.Read.{Shape, readFrame, extent}
 use Rattle.frames.specs.Join.{placeFrame, placeAll, close, join}
@@ -41,8 +41,8 @@ numbered-then : {A B : Type 0} (a : Answer A) (at : ℕ) (f : A → Option Stopp
 numbered-then (result x) at f g h = h x
 numbered-then (refused n) at f g h = refl
 
-within-then : {A : Type 0} (n : ℕ) (a : Answer A) (at : ℕ) (f : A → Option Stopped) → at ≤ n → ((x : A) → a ≡ result x → Within n (f x))
-    → Within n (stopAt at a f)
+within-then : {A : Type 0} (n : ℕ) (a : Answer A) (at : ℕ) (f : A → Option Stopped) → at ≤ n → ((x : A) → a ≡ result x → StopWithin n (f x))
+    → StopWithin n (stopAt at a f)
 within-then n (result x) at f l h = h x refl
 within-then n (refused k) at f l h = l
 
@@ -58,7 +58,7 @@ place-numbered (suc n) at (b ∷ bs) placed =
     numbered-then (placeFrame (b ∷ bs) f placed) at _ _
     (λ more. place-numbered n (at + extent f) (drop (extent f) (b ∷ bs)) more))
 
-place-within : (most n at : ℕ) (bs : List ℕ) (placed : List Piece) → at + length bs ≤ most → Within most (placeStops n at bs placed)
+place-within : (most n at : ℕ) (bs : List ℕ) (placed : List Piece) → at + length bs ≤ most → StopWithin most (placeStops n at bs placed)
 unfolding placeStops
 place-within most zero at bs placed h = tt
 place-within most (suc n) at [] placed h = tt
@@ -87,11 +87,11 @@ stop-numbered bs = go (placeStops (length bs) 0 bs []) (placeAll (length bs) bs 
     go (some s) (refused n) t = t
 
 -- THE PLACE LIES IN THE LIST, OR AT ITS END
-pub stop-within : (bs : List ℕ) → Within (length bs) (joinStops bs)
+pub stop-within : (bs : List ℕ) → StopWithin (length bs) (joinStops bs)
 unfolding joinStops
 stop-within bs = go (placeStops (length bs) 0 bs []) (join bs) (place-within (length bs) (length bs) 0 bs [] (omega arith))
   where
-    go : (s : Option Stopped) (a : Answer (List ℕ)) → Within (length bs) s → Within (length bs) (firstStop s (stopAt (length bs) a (λ s. none)))
+    go : (s : Option Stopped) (a : Answer (List ℕ)) → StopWithin (length bs) s → StopWithin (length bs) (firstStop s (stopAt (length bs) a (λ s. none)))
     go none (result l) w = tt
     go none (refused n) w = omega arith
     go (some s) a w = w

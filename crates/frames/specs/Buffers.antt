@@ -9,7 +9,7 @@ use lib.Dec.{eqb, leb}
 use Rattle.wire.specs.Answer.{Answer, result, refused, ask, unlessRefused, IsNumber}
 use Rattle.wire.specs.Front.{frontAt}
 use Rattle.wire.specs.Sums.{indicator}
-use Rattle.stops.specs.Stops.{Stopped, stopped}
+use Rattle.wire.specs.Stops.{Stopped, stopped}
 use Rattle.frames.specs.Frame.{Piece}
 use Rattle.frames.specs.Read.{Shape, readFrame, extent}
 use Rattle.frames.specs.Stream.{filled, held, endOf, each, values}

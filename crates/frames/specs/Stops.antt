@@ -6,8 +6,8 @@ use mathlib.Core.List.{List, [], _∷_}
 use mathlib.Core.Option.{Option, none, some}
 use lib.ListN.{length, drop}
 use Rattle.wire.specs.Answer.{Answer, result, refused}
-use Rattle.stops.specs.Stops.{Stopped, stopped, stopOf, StopBounds}
-use Rattle.stops.specs.declared.Stop.{Stop}
+use Rattle.wire.specs.Stops.{Stopped, stopped, stopOf, StopBounds}
+use Rattle.wire.specs.declared.Stop.{Stop}
 use Rattle.frames.specs.Frame.{Piece}
 use Rattle.frames.specs.Read.{readFrame, extent}
 use Rattle.frames.specs.Join.{placeFrame, join, roomy, outAfter, marksAfter}

@@ -7,7 +7,7 @@ ghost use Rattle.frames.specs.Stops.{StopsAt};
 ghost use Rattle.frames.specs.Buffers.{agreeing, marked, zeros, Padding, Placing, Stepping, Joining, Walks};
 use crate::reading::FrameRead;
 use crate::reading::read_frame;
-use stops::Stop;
+use wire::Stop;
 
 // The longest stream, and the least length of each buffer.
 pub const LIMIT: usize = 16384;

@@ -3,12 +3,12 @@
 // profiles, both names, the numbers of the two reports, 0 where a hello was accepted, and whether the two are alike.
 ghost use Prim.Native.Nat.{_≤_};
 ghost use lib.ListN.{length};
-use bench::Outcome;
-use bench::two_greetings;
 use frames::cutting::Cut;
 use frames::cutting::write_frames;
 use libc::STDOUT_FILENO;
 use script::writing::put_two_numbers;
+use third_demand::Outcome;
+use third_demand::two_greetings;
 use tls::Made;
 use tls::making::generate_client_hello;
 

@@ -12,9 +12,9 @@ use borrow.Author.Tests.{ltb-true, lt-ltb, le-ltb, eq-eqb, ne-eqb}
 use Rattle.wire.specs.Sums.{any, member}
 use Rattle.wire.proofs.SumLaws.{and-left, and-right, member-nil}
 use Rattle.script.specs.Scan.{space, distance, findOf}
-use Rattle.lines.specs.Words.{wordFrom, wordOf, isThere, hasOperands}
-use Rattle.lines.specs.declared.words.Word.{Word}
-use Rattle.lines.specs.declared.words.Word.the-variants as the-word
+use Rattle.script.specs.Words.{wordFrom, wordOf, isThere, hasOperands}
+use Rattle.script.specs.declared.words.Word.{Word}
+use Rattle.script.specs.declared.words.Word.the-variants as the-word
 use Rattle.registries.specs.Registry.{text, texts, word, placeOf, spareWords, nameIn, rises, isTable}
 use Rattle.registries.specs.Tables.{suites, suiteNames, groups, groupNames, algorithms, algorithmNames, types, typeNames}
 use Rattle.registries.specs.Tables.{versions, versionNames, parameters, parameterNames}

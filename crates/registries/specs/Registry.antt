@@ -8,7 +8,7 @@ use mathlib.Core.List.{List, [], _∷_, _++_}
 use lib.ListN.{length}
 use lib.Dec.{ltb}
 use Rattle.script.specs.Scan.{distance}
-use Rattle.lines.specs.Words.{wordOf, wordText, hasOperands}
+use Rattle.script.specs.Words.{wordOf, wordText, hasOperands}
 
 -- the bytes of a text
 unfoldable pub text : String → List ℕ

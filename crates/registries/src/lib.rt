@@ -8,7 +8,7 @@ ghost use Prim.Native.Nat.{_≤_};
 ghost use lib.ListN.{length};
 ghost use Rattle.script.specs.Shown.{Written};
 ghost use Rattle.registries.specs.Registry.{placeOf, nameIn};
-use lines::words::word_at;
+use script::words::word_at;
 use script::writing::put_text;
 
 // The place of a number in a table; the table's length where it is not there.

@@ -1,6 +1,6 @@
 -- Bounds that the functions of this crate keep. What the system reads and writes has no contract; that of the text is in `script` and `answers`.
 use Prim.Native.Nat.{ℕ, _≤_}
-use Rattle.lines.specs.Input.{Held}
+use Rattle.script.specs.Input.{Held}
 use Rattle.runner.specs.declared.Standing.{Standing}
 
 -- the places in the input lie within its buffers, and what is kept for `_` fits its own

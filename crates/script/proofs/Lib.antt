@@ -7,3 +7,5 @@ pub mod AnswerLaws
 pub mod ReadBack
 pub mod ShownBack
 pub mod Samples
+pub mod WordLaws
+pub mod InputLaws

@@ -4,3 +4,5 @@ pub mod Hex
 pub mod Piece
 pub mod Shown
 pub mod Answers
+pub mod Words
+pub mod Input

@@ -69,20 +69,20 @@ drawn-same p n s pay m r other t h =
 -- ---- both grow
 
 -- neither number is larger
-pub record Within (d e : Extent) : Type 0 where
+pub record ExtentWithin (d e : Extent) : Type 0 where
   pub written-le : d .written ≤ e .written
   pub drawn-le : d .drawn ≤ e .drawn
 
-within-same : (e : Extent) → Within e e
+within-same : (e : Extent) → ExtentWithin e e
 within-same e = record { written-le = le-refl (e .written); drawn-le = le-refl (e .drawn) }
 
-within-ech : (pay other : ℕ) → pay ≤ other → Within (echExtent pay) (echExtent other)
+within-ech : (pay other : ℕ) → pay ≤ other → ExtentWithin (echExtent pay) (echExtent other)
 within-ech pay other h = record { written-le = omega arith; drawn-le = omega arith }
 
 -- with the payload
-pub payload-grows : (p : Profile) (n s pay other t : ℕ) → pay ≤ other → Within (extensionExtent p n s pay t) (extensionExtent p n s other t)
+pub payload-grows : (p : Profile) (n s pay other t : ℕ) → pay ≤ other → ExtentWithin (extensionExtent p n s pay t) (extensionExtent p n s other t)
 payload-grows p n s pay other t h =
-    extents-related Within within-same p n s pay n s other t (within-same _) (within-same _) (λ e. within-ech pay other h)
+    extents-related ExtentWithin within-same p n s pay n s other t (within-same _) (within-same _) (λ e. within-ech pay other h)
 
 -- a length below 64 is itself written in one byte
 one-byte : (s : ℕ) → s < 64 → width (class s) ≡ 1
@@ -99,9 +99,9 @@ parameter-grows s r h k grease = le-refl _
 
 -- with name and connection id
 pub extent-grows : (p : Profile) (n s m r pay t : ℕ) → n ≤ m → s ≤ r → r < 64
-    → Within (extensionExtent p n s pay t) (extensionExtent p m r pay t)
+    → ExtentWithin (extensionExtent p n s pay t) (extensionExtent p m r pay t)
 extent-grows p n s m r pay t hn hs hr =
-    extents-related Within within-same p n s pay m r pay t
+    extents-related ExtentWithin within-same p n s pay m r pay t
     (record { written-le = omega arith; drawn-le = le-refl 0 })
     (record {
       written-le = omega (arith, total-le (parameterLength s) (parameterLength r) (parameter-grows s r hs hr) (p .quicTp));

@@ -3,3 +3,4 @@ pub mod Numbers
 pub mod Front
 pub mod Vectors
 pub mod Sums
+pub mod Stops

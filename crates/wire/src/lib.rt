@@ -79,3 +79,10 @@ pub fn put_words(out: &mut [u8], values: &[u16]) -> usize
     }
     at
 }
+
+// Where a reader or joiner stopped: the number of the refusal and the place at which the question was answered "no"; nowhere where all was
+// accepted.
+pub enum Stop {
+    Nowhere,
+    At(u64, usize),
+}

@@ -1,9 +1,9 @@
 -- `say_show` lists the hello with the reader's stop. Assumes nothing.
 use mathlib.Core.Path.{sym, ap, _∙_, subst}
 use denote.Ref.{now}
-use Rattle.stops.specs.Stops.{stopOf, StopBounds}
-use Rattle.stops.specs.declared.Stop.{Stop}
-use Rattle.listing.specs.Text.{stopFrom}
+use Rattle.wire.specs.Stops.{stopOf, StopBounds}
+use Rattle.wire.specs.declared.Stop.{Stop}
+use Rattle.show_hello.specs.Text.{stopFrom}
 use Rattle.answers.proofs.ListingLaws.{stop-numbered, shows-listing}
 use borrow.Author.Needs.{needs}
 use lib.ListN.{length}

@@ -2,9 +2,9 @@
 use mathlib.Core.Path.{sym, ap, _∙_, subst}
 use denote.Ref.{now}
 use lib.ListN.{length}
-use Rattle.stops.specs.Stops.{stopOf, StopBounds}
-use Rattle.stops.specs.declared.Stop.{Stop}
-use Rattle.listing.specs.Text.{stopFrom}
+use Rattle.wire.specs.Stops.{stopOf, StopBounds}
+use Rattle.wire.specs.declared.Stop.{Stop}
+use Rattle.show_hello.specs.Text.{stopFrom}
 use Rattle.answers.proofs.ListingLaws.{stop-numbered, shows-frames, roomy-stops}
 use borrow.Author.Needs.{needs}
 use Rattle.answers.proofs.say_show_frames.Statement.{statement}

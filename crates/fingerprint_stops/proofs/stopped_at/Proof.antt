@@ -5,7 +5,7 @@ use denote.Ref.{now}
 use Rattle.fingerprint.specs.Code.{FieldsFound, FieldsAs}
 use Rattle.fingerprint.specs.declared.head.Head.{Head}
 use Rattle.fingerprint.specs.declared.head.Head.the-variants as head
-use Rattle.stops.specs.declared.Stop.the-variants as stop
+use Rattle.wire.specs.declared.Stop.the-variants as stop
 use Rattle.fingerprint_stops.proofs.AnswerLaws.{bounded, refused-stop, session-small, suites-stop, extensions-stop}
 use borrow.Author.Needs.{needs}
 use Rattle.fingerprint_stops.proofs.stopped_at.Statement.{statement}

@@ -3,7 +3,7 @@ use mathlib.Core.Path.{_≡_, refl, _∙_}
 use native.Mathlib.Omega.{arith}
 use lib.ListN.{length}
 use Rattle.runner.specs.Bounds.{Turned}
-use Rattle.lines.proofs.InputLaws.{start-held}
+use Rattle.script.proofs.InputLaws.{start-held}
 use borrow.Author.Needs.{needs}
 use Rattle.runner.proofs.answer_all.Statement.{statement}
 use Rattle.runner.proofs.answer_all.Tie as tie

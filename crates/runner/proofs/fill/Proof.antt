@@ -1,7 +1,7 @@
 -- `fill` keeps the bounds: what is read lies in the chunk. Assumes nothing.
 use denote.Ref.{now}
 use lib.ListN.{length}
-use Rattle.lines.proofs.InputLaws.{filled-held}
+use Rattle.script.proofs.InputLaws.{filled-held}
 use borrow.Author.Needs.{needs}
 use Rattle.runner.proofs.fill.Statement.{statement}
 use Rattle.runner.proofs.fill.Tie as tie

@@ -1,5 +1,5 @@
 -- `turn` keeps the bounds from the chunk that was filled to the next line. Assumes nothing.
-use Rattle.lines.proofs.InputLaws.{next-held}
+use Rattle.script.proofs.InputLaws.{next-held}
 use borrow.Author.Needs.{needs}
 use Rattle.runner.proofs.turn.Statement.{statement}
 use Rattle.runner.proofs.turn.Tie as tie

@@ -1,0 +1,29 @@
+-- The answer of `read` as one number, by its width. Assumes nothing.
+use native.Mathlib.Omega.{arith}
+use mathlib.Core.Path.{ap}
+use Rattle.compare_calls.specs.Sums.{codedWidth}
+use borrow.Author.Needs.{needs}
+use Rattle.compare_calls.proofs.compare_varint_width.Statement.{statement}
+use Rattle.compare_calls.proofs.compare_varint_width.Tie as tie
+
+read-requires : tie.Need-read-requires
+read-requires c κs = search needs
+
+enum-known-x : tie.Need-enum-known-x
+enum-known-x c = search needs
+
+enum-known-n : tie.Need-enum-known-n
+enum-known-n c = search needs
+
+add-result : tie.Need-add-result
+add-result c = omega (arith, rw (c .before .n .given .1) at (c .before .before .before .read .ensures .bounds))
+
+returns : tie.Need-returns
+returns c = ap codedWidth (rw (c .before .x .given .1) at (c .before .before .before .read .ensures .is))
+
+returns-2 : tie.Need-returns-2
+returns-2 c = ap codedWidth (rw (c .before .n .given .1) at (c .before .before .before .read .ensures .is))
+
+pub compare-varint-width-spec : {M : Type 1} → statement M
+compare-varint-width-spec =
+    tie.close (tie.spec read-requires enum-known-x enum-known-n add-result returns returns-2)
