@@ -3,3 +3,4 @@ pub mod ByteLaws
 pub mod RoundTrip
 pub mod Promises
 pub mod RoomLaws
+pub mod Samples
