@@ -1,34 +1,39 @@
--- Closed inputs that tell the joiner from wrong ones, each with its answer. Assumes nothing.
-use Prim.Native.Nat.{ℕ}
+-- Closed inputs that tell the joiner and the frame writer from wrong ones, each with its answer. Assumes nothing.
+use Prim.Native.Nat.{ℕ, _+_, _^_}
 use mathlib.Core.Path.{_≡_, refl}
 use mathlib.Core.List.{List, [], _∷_, map}
 use mathlib.Core.Option.{Option, none, some}
 use Rattle.wire.specs.Answer.{Answer, result, refused}
-use Rattle.wire.specs.Numbers.{numberOn, number}
+use Rattle.wire.specs.Numbers.{digits, numberOn, number}
 use Rattle.wire.specs.Stops.{Stopped, stopped}
-use Rattle.varint.specs.Varint.{classAt, readOf}
+use Rattle.varint.specs.Varint.{firstAbove, class, form, classAt, readOf}
+use Rattle.frames.specs.Frame.{encode, encodeAll}
 use Rattle.frames.specs.Read.{readCrypto, readFrame}
 use Rattle.frames.specs.Stream.{has, byteAt, filled, held, endOf, each, values, agrees, gapless, stream}
 use Rattle.frames.specs.Join.{place, placeAll, close, join}
 use Rattle.frames.specs.Stops.{placeStops, joinStops}
+use Rattle.frames.specs.Cut.{cutFrom, cut, framesOf, cutOf}
 
 abbrev pub questions : List (List ℕ)
 questions =
-    -- empty frames: one at 0; one past the bytes, and alone, which leaves places empty
+    -- empty frames: one at 0; one past the bytes, and alone, which leaves places empty. A joiner that forgets the end of an empty frame
+    -- gives 1 and 0 there.
     (0x06 ∷ 0x00 ∷ 0x00 ∷ [])
     ∷ (0x06 ∷ 0x00 ∷ 0x01 ∷ 0xaa ∷ 0x06 ∷ 0x05 ∷ 0x00 ∷ [])
     ∷ (0x06 ∷ 0x05 ∷ 0x00 ∷ [])
-    -- a zero byte is placed like any other
+    -- a zero byte is placed like any other. A joiner that takes the later byte on conflict gives 01.
     ∷ (0x06 ∷ 0x00 ∷ 0x01 ∷ 0x00 ∷ 0x06 ∷ 0x00 ∷ 0x01 ∷ 0x01 ∷ [])
     -- a type has one byte: CRYPTO in a longer form is unknown
     ∷ (0x40 ∷ 0x06 ∷ 0x00 ∷ 0x01 ∷ 0xaa ∷ [])
+    -- a byte is missing. A joiner that takes a cut frame gives aa.
+    ∷ (0x06 ∷ 0x00 ∷ 0x02 ∷ 0xaa ∷ [])
     -- 12 before 13: a byte is missing, and the frame would end past 16,384
     ∷ (0x06 ∷ 0x80 ∷ 0x00 ∷ 0x40 ∷ 0x00 ∷ 0x02 ∷ 0xaa ∷ [])
     -- 13 for the largest offset, with no data too
     ∷ (0x06 ∷ 0xff ∷ 0xff ∷ 0xff ∷ 0xff ∷ 0xff ∷ 0xff ∷ 0xff ∷ 0xff ∷ 0x00 ∷ [])
     -- 13 before 14: the second frame ends past 16,384, and its first byte conflicts
     ∷ (0x06 ∷ 0x7f ∷ 0xff ∷ 0x01 ∷ 0x61 ∷ 0x06 ∷ 0x7f ∷ 0xff ∷ 0x02 ∷ 0x62 ∷ 0x62 ∷ [])
-    -- 15 after all frames
+    -- 15 after all frames. A joiner that reads type 04 as PADDING says 15.
     ∷ (0x06 ∷ 0x01 ∷ 0x01 ∷ 0xbb ∷ 0x04 ∷ [])
     -- longer varints, with PING and PADDING between
     ∷ (0x01 ∷ 0x06 ∷ 0xc0 ∷ 0x00 ∷ 0x00 ∷ 0x00 ∷ 0x00 ∷ 0x00 ∷ 0x00 ∷ 0x00 ∷ 0x40 ∷ 0x01 ∷ 0xaa ∷ 0x00 ∷ [])
@@ -41,6 +46,7 @@ answers =
     ∷ refused 15
     ∷ refused 14
     ∷ refused 11
+    ∷ refused 12
     ∷ refused 12
     ∷ refused 13
     ∷ refused 13
@@ -56,7 +62,8 @@ samples = refl
 
 abbrev pub lists : List (List ℕ)
 lists =
-    -- at the second frame, whose type is unknown, of which a byte is missing, which ends past 16,384, or whose byte conflicts
+    -- at the second frame, at byte 4 of the list. One that gives the place in the stream says 1. Its type is unknown, a byte of it is missing,
+    -- it ends past 16,384, or its byte conflicts.
     (0x06 ∷ 0x00 ∷ 0x01 ∷ 0xaa ∷ 0x04 ∷ [])
     ∷ (0x06 ∷ 0x00 ∷ 0x01 ∷ 0xaa ∷ 0x06 ∷ 0x01 ∷ 0x01 ∷ [])
     ∷ (0x06 ∷ 0x00 ∷ 0x01 ∷ 0xaa ∷ 0x06 ∷ 0x7f ∷ 0xff ∷ 0x02 ∷ 0x62 ∷ 0x62 ∷ [])
@@ -85,3 +92,26 @@ stops =
 pub stop-samples : map joinStops lists ≡ stops
 unfolding numberOn number classAt readOf readCrypto readFrame has byteAt filled held endOf each values agrees gapless stream place placeAll close join placeStops joinStops
 stop-samples = refl
+
+-- ---- The frame writer
+
+-- a writer that writes the end of a frame's data as its offset
+pub cut-offsets : framesOf 1 (0xaa ∷ 0xbb ∷ []) ≡ 0x06 ∷ 0x00 ∷ 0x01 ∷ 0xaa ∷ 0x06 ∷ 0x01 ∷ 0x01 ∷ 0xbb ∷ []
+unfolding digits firstAbove class form encode encodeAll cutFrom cut framesOf
+cut-offsets = refl
+
+abbrev pub cuts : List (Answer ℕ)
+cuts =
+    -- a writer that wants a byte more than the frames take
+    cutOf 1 (0xaa ∷ 0xbb ∷ []) 8
+    ∷ cutOf 1 (0xaa ∷ 0xbb ∷ []) 7
+    -- a writer that cuts c to 32 bits
+    ∷ cutOf (2 ^ 32 + 1) (0xaa ∷ 0xbb ∷ []) 8
+    ∷ cutOf 0 [] 0
+    -- "an empty hello gives no bytes"
+    ∷ cutOf 16384 [] 0
+    ∷ []
+
+pub cut-samples : cuts ≡ result 8 ∷ refused 26 ∷ refused 24 ∷ refused 24 ∷ result 0 ∷ []
+unfolding digits firstAbove class form encode encodeAll cutFrom cut framesOf cutOf
+cut-samples = refl
