@@ -17,15 +17,15 @@ use Rattle.frames.specs.Cut.{cutFrom, cut, framesOf, cutOf}
 abbrev pub questions : List (List ℕ)
 questions =
     -- empty frames: one at 0; one past the bytes, and alone, which leaves places empty. A joiner that forgets the end of an empty frame
-    -- gives 1 and 0 there.
+    -- takes all three.
     (0x06 ∷ 0x00 ∷ 0x00 ∷ [])
     ∷ (0x06 ∷ 0x00 ∷ 0x01 ∷ 0xaa ∷ 0x06 ∷ 0x05 ∷ 0x00 ∷ [])
     ∷ (0x06 ∷ 0x05 ∷ 0x00 ∷ [])
-    -- a zero byte is placed like any other. A joiner that takes the later byte on conflict gives 01.
+    -- a zero byte is placed like any other. A joiner that takes the later byte on conflict joins them to 01.
     ∷ (0x06 ∷ 0x00 ∷ 0x01 ∷ 0x00 ∷ 0x06 ∷ 0x00 ∷ 0x01 ∷ 0x01 ∷ [])
     -- a type has one byte: CRYPTO in a longer form is unknown
     ∷ (0x40 ∷ 0x06 ∷ 0x00 ∷ 0x01 ∷ 0xaa ∷ [])
-    -- a byte is missing. A joiner that takes a cut frame gives aa.
+    -- a byte is missing. A joiner that takes a cut frame joins it to aa.
     ∷ (0x06 ∷ 0x00 ∷ 0x02 ∷ 0xaa ∷ [])
     -- 12 before 13: a byte is missing, and the frame would end past 16,384
     ∷ (0x06 ∷ 0x80 ∷ 0x00 ∷ 0x40 ∷ 0x00 ∷ 0x02 ∷ 0xaa ∷ [])
@@ -62,8 +62,8 @@ samples = refl
 
 abbrev pub lists : List (List ℕ)
 lists =
-    -- at the second frame, at byte 4 of the list. One that gives the place in the stream says 1. Its type is unknown, a byte of it is missing,
-    -- it ends past 16,384, or its byte conflicts.
+    -- at the second frame, whose type is unknown, of which a byte is missing, which ends past 16,384, or whose byte conflicts. A joiner that
+    -- stops at a place of the stream, and not of the frames, says 1.
     (0x06 ∷ 0x00 ∷ 0x01 ∷ 0xaa ∷ 0x04 ∷ [])
     ∷ (0x06 ∷ 0x00 ∷ 0x01 ∷ 0xaa ∷ 0x06 ∷ 0x01 ∷ 0x01 ∷ [])
     ∷ (0x06 ∷ 0x00 ∷ 0x01 ∷ 0xaa ∷ 0x06 ∷ 0x7f ∷ 0xff ∷ 0x02 ∷ 0x62 ∷ 0x62 ∷ [])
@@ -95,20 +95,20 @@ stop-samples = refl
 
 -- ---- The frame writer
 
--- a writer that writes the end of a frame's data as its offset
+-- a writer that writes the end of the data as its offset writes 01 and 02 there
 pub cut-offsets : framesOf 1 (0xaa ∷ 0xbb ∷ []) ≡ 0x06 ∷ 0x00 ∷ 0x01 ∷ 0xaa ∷ 0x06 ∷ 0x01 ∷ 0x01 ∷ 0xbb ∷ []
 unfolding digits firstAbove class form encode encodeAll cutFrom cut framesOf
 cut-offsets = refl
 
 abbrev pub cuts : List (Answer ℕ)
 cuts =
-    -- a writer that wants a byte more than the frames take
+    -- an output of just the length, which a writer that wants a byte more refuses; and a byte less
     cutOf 1 (0xaa ∷ 0xbb ∷ []) 8
     ∷ cutOf 1 (0xaa ∷ 0xbb ∷ []) 7
-    -- a writer that cuts c to 32 bits
+    -- c of 2^32 + 1: a writer that cuts it to 32 bits writes frames of one byte
     ∷ cutOf (2 ^ 32 + 1) (0xaa ∷ 0xbb ∷ []) 8
+    -- 24 for a c of 0, though an empty hello gives no bytes
     ∷ cutOf 0 [] 0
-    -- "an empty hello gives no bytes"
     ∷ cutOf 16384 [] 0
     ∷ []
 
