@@ -1,4 +1,4 @@
--- Samples of places in blobs: where a record ends, where the end is found, and where 27 is said. Assumes nothing.
+-- Places in blobs that tell the splitter from wrong ones: where a record ends, where the end is found, and where 27 is said. Assumes nothing.
 use Prim.Native.Nat.{ℕ}
 use mathlib.Core.Path.{_≡_, refl}
 use mathlib.Core.List.{List, [], _∷_, map}
@@ -18,14 +18,18 @@ pub record Said : Type 0 where
 abbrev pub says : Place → Said
 says p = record { found = recordAt (p .blob) (p .at); part = recordOf (p .blob) (p .at) }
 
--- `00` at 0, 1 and 2; `0000`, `0001` and `0001aa` at 0; `0001aa00` at 3
 abbrev pub places : List Place
 places =
+    -- fewer than two bytes left: a splitter that refuses half a length says 27
     record { blob = 0x00 ∷ []; at = 0 }
     ∷ record { blob = 0x00 ∷ []; at = 1 }
+    -- a place past the end
     ∷ record { blob = 0x00 ∷ []; at = 2 }
+    -- a record of no bytes: a splitter that says "end" with a record left says it here
     ∷ record { blob = 0x00 ∷ 0x00 ∷ []; at = 0 }
-    ∷ record { blob = 0x00 ∷ 0x01 ∷ []; at = 0 }
+    -- a cut record: a splitter that hands back what there is of it gives aa
+    ∷ record { blob = 0x00 ∷ 0x02 ∷ 0xaa ∷ []; at = 0 }
+    -- a whole one: a splitter that hands it back with its length gives 0001aa
     ∷ record { blob = 0x00 ∷ 0x01 ∷ 0xaa ∷ []; at = 0 }
     ∷ record { blob = 0x00 ∷ 0x01 ∷ 0xaa ∷ 0x00 ∷ []; at = 3 }
     ∷ []

@@ -2,3 +2,4 @@ pub mod DrawLaws
 pub mod ShuffleLaws
 pub mod DrawnNumbers
 pub mod PartLaws
+pub mod Samples

@@ -1,3 +1,4 @@
 pub mod ShareLaws
 pub mod LengthLaws
 pub mod HeadLaws
+pub mod Samples
