@@ -3,3 +3,4 @@ pub mod ParameterLaws
 pub mod OrderLaws
 pub mod ShuffledLaws
 pub mod Sent
+pub mod Samples
