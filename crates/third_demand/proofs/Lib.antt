@@ -3,3 +3,4 @@ pub mod MadeLaws
 pub mod ThirdDemand
 pub mod Witness
 pub mod RunLaws
+pub mod Samples
