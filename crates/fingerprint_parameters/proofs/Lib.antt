@@ -5,4 +5,3 @@ pub mod ParameterLaws
 pub mod ReadingLaws
 pub mod AskedLaws
 pub mod ShortParameter
-pub mod OrderLaws

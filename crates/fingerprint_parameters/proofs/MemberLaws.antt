@@ -1,41 +1,18 @@
--- Numbers in a list: looking for one, and whether any stands twice. Assumes nothing.
-use Prim.Native.Nat.{ℕ, _+_, _-_, _≤_, _<_}
+-- Numbers in a list: looking for one, and one more after others that are all new. Assumes nothing.
+use Prim.Native.Nat.{ℕ, _+_, _≤_, _<_}
 use mathlib.Core.Path.{_≡_, refl, sym, ap, _∙_}
 use mathlib.Core.Bool.{Bool, true, false, true≢false}
-use mathlib.Core.Logic.{⊎-elim}
 use mathlib.Core.List.{List, [], _∷_, _++_}
 use native.Mathlib.Decide.{ℕ-discrete}
 use native.Mathlib.Numerals.{add-one}
 use native.Mathlib.Omega.{arith}
 use lib.ListN.{length, take, drop, getD, length-take, drop-of-length-le}
-use lib.Seq.{take-suc, take-add, drop-cons, getD-take, length-take-le}
+use lib.Seq.{drop-cons, getD-take, length-take-le}
 use lib.Dec.{eqb}
-use borrow.Author.Tests.{eq-eqb, ne-eqb}
-use Rattle.wire.specs.Sums.{indicator, count, any, member, distinct}
-use Rattle.wire.proofs.SumLaws.{count-append, count-cons, member-nil, member-none, member-some, distinct-once, once-distinct, indicator-le}
-use Rattle.wire.proofs.ListLaws.{lt-or-le}
-
--- ---- the first number of a list
-
-pub member-first : (x y : ℕ) (l : List ℕ) → x ≡ y → member x (y ∷ l) ≡ true
-unfolding member any
-member-first x y l e = rw (eq-eqb x y e)
-
-pub member-later : (x y : ℕ) (l : List ℕ) → (x ≡ y → ⊥) → member x (y ∷ l) ≡ member x l
-unfolding member any
-member-later x y l e = rw (ne-eqb x y e)
-
-pub distinct-nil : distinct [] ≡ true
-unfolding distinct
-distinct-nil = refl
-
-pub distinct-not : (x : ℕ) (l : List ℕ) → member x l ≡ true → distinct (x ∷ l) ≡ false
-unfolding distinct
-distinct-not x l e = rw e
-
-pub distinct-later : (x : ℕ) (l : List ℕ) → member x l ≡ false → distinct (x ∷ l) ≡ distinct l
-unfolding distinct
-distinct-later x l e = rw e
+use borrow.Author.Tests.{ne-eqb}
+use Rattle.wire.specs.Sums.{indicator, count, member, distinct}
+use Rattle.wire.proofs.SumLaws.{count-append, member-nil, member-none, member-some, distinct-once, once-distinct, indicator-le}
+use Rattle.fingerprint_order.proofs.MemberLaws.{member-first, member-later, distinct-nil, count-one, one-more}
 
 -- ---- looking for a number among the first n, from place i on
 
@@ -53,12 +30,6 @@ pub among-end : (l : List ℕ) (n i x : ℕ) → n ≤ i → member x (drop i (t
 among-end l n i x h = rw (drop-of-length-le (take n l) {i = i} (omega (arith, length-take n l))) (member-nil x)
 
 -- ---- a number after others
-
-pub member-counted : (x : ℕ) (l : List ℕ) → member x l ≡ true → 0 < count x l
-member-counted x l e = ⊎-elim (λ p. p) (λ q. absurd (true≢false (sym e ∙ member-none x l (omega arith)))) (lt-or-le 0 (count x l))
-
-count-one : (x y : ℕ) → count x (y ∷ []) ≡ indicator (eqb x y)
-count-one x y = omega (arith, count-cons x y [], member-some x [] (member-nil x))
 
 pub member-last : (x y : ℕ) (l : List ℕ) → (x ≡ y → ⊥) → member x (l ++ (y ∷ [])) ≡ true → member x l ≡ true
 member-last x y l o e = go (member x l) refl
@@ -83,25 +54,8 @@ distinct-last x l d m = once-distinct (l ++ (x ∷ [])) once
 -- ---- place i of a list, whose first numbers are known
 
 module _ (l : List ℕ) (i : ℕ) (h : i < length l) where
-  pub one-more : take (i + 1) l ≡ take i l ++ (getD l i 0 ∷ [])
-  one-more = rw (add-one i) (take-suc l i 0 h)
-
   pub new-next : distinct (take i l) ≡ true → member (getD l i 0) (take i l) ≡ false → distinct (take (i + 1) l) ≡ true
-  new-next d m = rw one-more (distinct-last (getD l i 0) (take i l) d m)
-
-  -- the number stands before its place too, so it stands twice among the first n
-  pub new-not : (n : ℕ) → i < n → member (getD l i 0) (take i l) ≡ true → distinct (take n l) ≡ false
-  new-not n k m = go (distinct (take n l)) refl
-    where
-      go : (t : Bool) → distinct (take n l) ≡ t → t ≡ false
-      go false e = refl
-      go true e =
-          let x = getD l i 0 in
-          let z : i + 1 + (n - (i + 1)) ≡ n = omega arith in
-          let more : take n l ≡ take (i + 1) l ++ take (n - (i + 1)) (drop (i + 1) l) = rw z at (take-add (i + 1) (n - (i + 1)) l) in
-          let twice : count x (take n l) ≡ count x (take i l) + 1 + count x (take (n - (i + 1)) (drop (i + 1) l)) =
-          rw (more, one-more, count-append, count-append, count-one x x, eq-eqb x x refl) in
-          absurd (omega (arith, twice, member-counted x (take i l) m, distinct-once (take n l) e x))
+  new-next d m = rw (one-more l i h) (distinct-last (getD l i 0) (take i l) d m)
 
 pub new-start : (l : List ℕ) → distinct (take 0 l) ≡ true
 new-start l = distinct-nil

@@ -1,7 +1,5 @@
 // The body of the transport parameters (extension 0039; RFC 9000, section 18): ids, each with a length and a value. Document 01,
 // questions 21 to 23 for this body.
-mod order;
-
 ghost use mathlib.Core.Path.{_≡_};
 ghost use mathlib.Core.Option.{some};
 ghost use Prim.Native.Nat.{_≤_};
@@ -9,8 +7,9 @@ ghost use lib.ListN.{length, take};
 ghost use Rattle.wire.specs.Sums.{member, distinct};
 ghost use Rattle.fingerprint_bodies.specs.Entries.{orEmpty};
 ghost use Rattle.fingerprint_bodies.specs.Forms.{transportParameters};
-ghost use Rattle.fingerprint_parameters.specs.Code.{ParameterAs, shortOf, idsOf, Kept, idsIn, RiseAs, AskedIds};
-use order::Rise;
+ghost use Rattle.fingerprint_order.specs.Code.{RiseAs};
+ghost use Rattle.fingerprint_parameters.specs.Code.{ParameterAs, shortOf, idsOf, Kept, idsIn, AskedIds};
+use fingerprint_order::Rise;
 use varint::Got;
 
 // A parameter at the front of some bytes: its id, and the bytes that it takes.
@@ -182,7 +181,7 @@ fn ids_in_order(body: &[u8], limit: u64) -> Rise
     if 8192 < n {
         return Rise::Unsorted;
     }
-    order::in_order(&ids, n, limit)
+    fingerprint_order::in_order(&ids, n, limit)
 }
 
 // No id stands twice in the body, however many there are. Their order tells: first for ids below 2^22, as all of one and two bytes are,

@@ -7,7 +7,8 @@ use denote.Ref.{now}
 use lib.ListN.{length, take, getD, replicate, length-set}
 use Rattle.wire.specs.Sums.{member, distinct}
 use Rattle.fingerprint_parameters.specs.Code.{Marked}
-use Rattle.fingerprint_parameters.proofs.MemberLaws.{one-more, new-start, new-next, new-not}
+use Rattle.fingerprint_order.proofs.MemberLaws.{one-more, new-not}
+use Rattle.fingerprint_parameters.proofs.MemberLaws.{new-start, new-next}
 use Rattle.fingerprint_parameters.proofs.MarkLaws.{marked-none, marked-next, unmarked-new}
 use borrow.Author.Needs.{needs}
 use native.Mathlib.Omega.{arith}

@@ -10,7 +10,7 @@ use Rattle.wire.proofs.ListLaws.{part-to-end}
 use Rattle.fingerprint_bodies.specs.Forms.{transportParameters}
 use Rattle.fingerprint_bodies.proofs.EntryLaws.{There}
 use Rattle.fingerprint_parameters.specs.Code.{ParameterFound, ParameterAs, idsIn}
-use Rattle.fingerprint_parameters.proofs.MemberLaws.{distinct-nil, distinct-not, distinct-later}
+use Rattle.fingerprint_order.proofs.MemberLaws.{distinct-nil, distinct-not, distinct-later}
 use Rattle.fingerprint_parameters.proofs.ParameterLaws.{cut-there, next-within, next-there, next-ids, ids-end}
 use borrow.Author.Needs.{needs}
 use native.Mathlib.Omega.{arith}

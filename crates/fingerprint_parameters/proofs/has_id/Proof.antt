@@ -11,7 +11,7 @@ use Rattle.wire.proofs.SumLaws.{member-nil}
 use Rattle.fingerprint_bodies.specs.Forms.{transportParameters}
 use Rattle.fingerprint_bodies.proofs.EntryLaws.{There}
 use Rattle.fingerprint_parameters.specs.Code.{ParameterFound, ParameterAs, idsIn}
-use Rattle.fingerprint_parameters.proofs.MemberLaws.{member-first, member-later}
+use Rattle.fingerprint_order.proofs.MemberLaws.{member-first, member-later}
 use Rattle.fingerprint_parameters.proofs.ParameterLaws.{cut-there, next-within, next-there, next-ids, ids-end}
 use borrow.Author.Needs.{needs}
 use native.Mathlib.Omega.{arith}

@@ -10,7 +10,7 @@ use Rattle.wire.specs.Sums.{member}
 use Rattle.wire.proofs.ListLaws.{part-to-end}
 use Rattle.wire.proofs.SumLaws.{member-nil}
 use Rattle.fingerprint_parameters.specs.Code.{ParameterFound, ParameterAs}
-use Rattle.fingerprint_parameters.proofs.MemberLaws.{member-first, member-later}
+use Rattle.fingerprint_order.proofs.MemberLaws.{member-first, member-later}
 use Rattle.fingerprint_stops.specs.Code.{firstIds}
 use Rattle.fingerprint_stops.proofs.RepeatLaws.{ids-start, ids-end, ids-cut, ids-next}
 use Rattle.fingerprint_stops.proofs.body.among_first.Statement.{statement}
