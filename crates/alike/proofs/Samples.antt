@@ -1,9 +1,9 @@
--- Closed pairs of hellos: what the definition says of them. Each rules out an Alike that compares something else. Assumes nothing.
+-- Closed pairs of hellos: what the definition says of them. The contract of `alike` is an equation with it, so a program that answers one
+-- of them otherwise does not meet it; the comments name such programs as ruled out. Assumes nothing.
 use Prim.Native.Nat.{ℕ}
 use mathlib.Core.Path.{_≡_, refl}
 use mathlib.Core.Bool.{true, false}
 use mathlib.Core.List.{List, [], _∷_, _++_, map}
-use lib.ListN.{replicate}
 use Rattle.wire.specs.Numbers.{digits, number, numberOn}
 use Rattle.wire.specs.Vectors.{vector}
 use Rattle.wire.specs.Sums.{total, count, any, member, distinct, equallyOften, sameCounts}
@@ -14,7 +14,7 @@ use Rattle.fingerprint_bodies.specs.Forms.{wordsIn, evenWords, wordList, oneNam
 use Rattle.fingerprint_lists.specs.Arrays.{placed}
 use Rattle.fingerprint.specs.Reader.{oneExtension, askBody, extension, walk, allExtensions, afterSuites, afterSession, fields, readExtensions, readBody, readFields, read}
 use Rattle.fingerprint.specs.Report.{numbersIn, namesIn, gathered, blockPlace, firstOf, report}
-use Rattle.fingerprint.proofs.Samples.{helloWith, parametersOf}
+use Rattle.fingerprint.proofs.Samples.{helloOf, helloWith, parametersOf}
 use Rattle.alike.specs.Alike.{alikeId, likeness, sameList, sameName, sameLists, agree, alike}
 
 -- two blocks of extensions
@@ -38,10 +38,11 @@ emptyOf t = 0x00 ∷ t ∷ 0x00 ∷ 0x00 ∷ []
 
 abbrev pub pairs : List Pair
 pairs =
-    -- ids 27 and 58: each counts as 27
+    -- ids 27 and 58: each counts as 27. Ruled out: an Alike that folds ids of 26
     pair (parametersOf (0x1b ∷ 0x00 ∷ [])) (parametersOf (0x3a ∷ 0x00 ∷ []))
-    -- both of them, and one: as a set they would be the same
+    -- both of them, and one; or one and another id. Ruled out: an Alike that counts ids as a set, and one that counts each once
     ∷ pair (parametersOf (0x1b ∷ 0x00 ∷ 0x3a ∷ 0x00 ∷ [])) (parametersOf (0x1b ∷ 0x00 ∷ []))
+    ∷ pair (parametersOf (0x1b ∷ 0x00 ∷ 0x3a ∷ 0x00 ∷ [])) (parametersOf (0x1b ∷ 0x00 ∷ 0x01 ∷ 0x00 ∷ []))
     -- one, and none
     ∷ pair (parametersOf (0x1b ∷ 0x00 ∷ [])) (parametersOf [])
     -- ids in another order, one with a value
@@ -64,26 +65,19 @@ pairs =
 
 pub verdicts :
     map (λ p. alike (read (helloWith (p .one))) (read (helloWith (p .other)))) pairs
-    ≡ true ∷ false ∷ false ∷ true ∷ true ∷ false ∷ false ∷ false ∷ false ∷ true ∷ false ∷ []
+    ≡ true ∷ false ∷ false ∷ false ∷ true ∷ true ∷ false ∷ false ∷ false ∷ false ∷ true ∷ false ∷ []
 unfolding
-    groupsOf protocolsOf emptyOf helloWith parametersOf vector digits number numberOn classAt readOf read readFields readBody whole vectorAt numberAt taken bind
+    groupsOf protocolsOf emptyOf helloOf helloWith parametersOf vector digits number numberOn classAt readOf read readFields readBody whole vectorAt numberAt taken bind
     mapped fields atMost afterSession evenWords wordsIn afterSuites atLeast readExtensions allExtensions walk extension oneExtension askBody member any
     distinct kind bodyOf wordList oneName someNames protocolNames varintAt oneParameter transportParameters first entries allEntries idsNew withinCounts report
     blockPlace gathered numbersIn namesIn placed firstOf encodeBody likeness alikeId agree sameName sameLists sameList sameCounts equallyOften count
     total alike
 verdicts = refl
 
--- ---- suites
-
--- a hello with two suites and no extensions
-unfoldable pub helloOffering : List ℕ → List ℕ
-helloOffering suites =
-    0x01 ∷ vector 3 ((0x03 ∷ 0x03 ∷ replicate 32 0x20) ++ (0x00 ∷ vector 2 suites ++ (0x01 ∷ 0x00 ∷ 0x00 ∷ 0x00 ∷ [])))
-
--- in another order they are others: an Alike that ignores the suites says yes
+-- two suites, in another order. Ruled out: an Alike that ignores the suites
 pub suites-compared :
-    alike (read (helloOffering (0x13 ∷ 0x01 ∷ 0x13 ∷ 0x02 ∷ []))) (read (helloOffering (0x13 ∷ 0x02 ∷ 0x13 ∷ 0x01 ∷ []))) ≡ false
+    alike (read (helloOf [] (0x13 ∷ 0x01 ∷ 0x13 ∷ 0x02 ∷ []) [])) (read (helloOf [] (0x13 ∷ 0x02 ∷ 0x13 ∷ 0x01 ∷ []) [])) ≡ false
 unfolding
-    helloOffering vector digits number numberOn read readFields readBody whole vectorAt numberAt taken bind mapped fields atMost afterSession evenWords wordsIn
+    helloOf vector digits number numberOn read readFields readBody whole vectorAt numberAt taken bind mapped fields atMost afterSession evenWords wordsIn
     afterSuites atLeast readExtensions allExtensions walk report blockPlace gathered firstOf likeness agree sameName sameLists sameList alike
 suites-compared = refl

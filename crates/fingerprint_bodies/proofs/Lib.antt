@@ -11,3 +11,5 @@ pub mod EntryTrips
 pub mod BodyBack
 pub mod BodyRead
 pub mod BodyLaws
+-- closed inputs
+pub mod Samples

@@ -5,3 +5,4 @@ pub mod ParameterLaws
 pub mod ReadingLaws
 pub mod AskedLaws
 pub mod ShortParameter
+pub mod Samples
