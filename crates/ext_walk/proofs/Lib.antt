@@ -1,3 +1,4 @@
 pub mod StepLaws
 pub mod BlockLaws
 pub mod WalkLaws
+pub mod Samples
