@@ -10,15 +10,6 @@ use Rattle.ext_walk.proofs.first_extension.Tie as tie
 found : (c : tie.After-known-told) → FieldsFound (c .before .before .before .before .before .args .hello .now) (c .before .block .given .0 .0) (c .before .block .given .0 .1 .0) (c .before .block .given .0 .1 .1 .0)
 found c = subst (λ (x : Head). FieldsAs x (c .before .before .before .before .before .args .hello .now)) (c .before .block .given .1) (c .before .before .before .read-fields .ensures)
 
-read-fields-requires : tie.Need-read-fields-requires
-read-fields-requires c κs = search needs
-
-enum-known-block : tie.Need-enum-known-block
-enum-known-block c = search needs
-
-enum-told : tie.Need-enum-told
-enum-told c = search needs
-
 returns : tie.Need-returns
 returns c =
     let f = found c in
@@ -32,4 +23,10 @@ returns-2 c =
 
 pub first-extension-spec : {M : Type 1} → statement M
 first-extension-spec =
-    tie.close (tie.spec read-fields-requires enum-known-block enum-told returns returns-2)
+    tie.close
+    (tie.spec
+    (λ c κs. search needs)  -- read-fields-requires
+    (λ c. search needs)  -- enum-known-block
+    (λ c. search needs)  -- enum-told
+    returns
+    returns-2)

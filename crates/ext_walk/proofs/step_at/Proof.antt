@@ -12,15 +12,6 @@ returns c =
     let args = c .before .before .args in
     sym (step-end (args .hello .now) (args .at) (c .if1 .taken))
 
-read-header-requires : tie.Need-read-header-requires
-read-header-requires c κs = search needs
-
-enum-known-t : tie.Need-enum-known-t
-enum-known-t c = search needs
-
-enum-told : tie.Need-enum-told
-enum-told c = search needs
-
 returns-2 : tie.Need-returns-2
 returns-2 c =
     let args = c .before .before .before .before .before .before .args in
@@ -36,4 +27,11 @@ returns-3 c =
 
 pub step-at-spec : {M : Type 1} → statement M
 step-at-spec =
-    tie.close (tie.spec returns read-header-requires enum-known-t enum-told returns-2 returns-3)
+    tie.close
+    (tie.spec
+    returns
+    (λ c κs. search needs)  -- read-header-requires
+    (λ c. search needs)  -- enum-known-t
+    (λ c. search needs)  -- enum-told
+    returns-2
+    returns-3)

@@ -36,9 +36,6 @@ fits c = omega (arith, found c .within, length-drop (c .before .before .before .
 loop-holds : tie.Need-loop-holds Inv-loop μ-loop
 loop-holds c = (zero-le, zero-le, count-start oneShare (c .before .args .list .now))
 
-enum-told : tie.Need-enum-told Inv-loop μ-loop
-enum-told c = search needs
-
 returns : tie.Need-returns Inv-loop μ-loop
 returns c =
     let l = c .before .before .before .before .before .loop in
@@ -83,7 +80,7 @@ ask-entries-spec =
     (λ c. search needs)  -- part-one-share-end
     (λ c κs. search needs)  -- one-share-requires
     (λ c. search needs)  -- enum-known-used
-    enum-told
+    (λ c. search needs)  -- enum-told
     returns
     add-at
     (λ c. search needs)  -- add-k

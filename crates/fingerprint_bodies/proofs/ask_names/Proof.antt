@@ -36,9 +36,6 @@ fits c = omega (arith, found c .within, length-drop (c .before .before .before .
 loop-holds : tie.Need-loop-holds Inv-loop μ-loop
 loop-holds c = (zero-le, zero-le, count-start oneName (c .before .args .list .now))
 
-enum-told : tie.Need-enum-told Inv-loop μ-loop
-enum-told c = search needs
-
 returns : tie.Need-returns Inv-loop μ-loop
 returns c =
     let l = c .before .before .before .before .before .loop in
@@ -95,7 +92,7 @@ ask-names-spec =
     (λ c. search needs)  -- part-one-name-end
     (λ c κs. search needs)  -- one-name-requires
     (λ c. search needs)  -- enum-known-length
-    enum-told
+    (λ c. search needs)  -- enum-told
     returns
     add-at
     add-at-2

@@ -5,14 +5,8 @@ use borrow.Author.Needs.{needs}
 use Rattle.fingerprint_bodies.proofs.ask_words.Statement.{statement}
 use Rattle.fingerprint_bodies.proofs.ask_words.Tie as tie
 
-is-whole-requires : tie.Need-is-whole-requires
-is-whole-requires c κs = search needs
-
 sub-ask-count : tie.Need-sub-ask-count
 sub-ask-count c = whole-reaches (c .before .before .before .args .width) (c .before .before .before .args .body .now) (sym (c .before .is-whole .ensures) ∙ (c .if1 .taken))
-
-ask-count-requires : tie.Need-ask-count-requires
-ask-count-requires c κs = search needs
 
 returns : tie.Need-returns
 returns c = (c .ask-count .ensures) ∙ sym (words-whole (c .before .before .before .before .args .width) (c .before .before .before .before .args .body .now) (sym (c .before .before .is-whole .ensures) ∙ (c .before .if1 .taken)))
@@ -22,4 +16,10 @@ returns-2 c = sym (words-other (c .before .before .before .args .width) (c .befo
 
 pub ask-words-spec : {M : Type 1} → statement M
 ask-words-spec =
-    tie.close (tie.spec is-whole-requires sub-ask-count ask-count-requires returns returns-2)
+    tie.close
+    (tie.spec
+    (λ c κs. search needs)  -- is-whole-requires
+    sub-ask-count
+    (λ c κs. search needs)  -- ask-count-requires
+    returns
+    returns-2)

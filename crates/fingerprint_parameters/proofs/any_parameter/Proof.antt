@@ -37,9 +37,6 @@ head c =
     let at-id = c .before .before .before .before .before in
     head-within (now (args .rest)) _ (id-found at-id) _ (length-found c)
 
-enum-told : tie.Need-enum-told
-enum-told c = search needs
-
 returns : tie.Need-returns
 returns c =
     let args = c .before .before .before .before .args in
@@ -101,7 +98,7 @@ any-parameter-spec =
     (tie.spec
     (λ c κs. search needs)  -- read-requires
     (λ c. search needs)  -- enum-known-id
-    enum-told
+    (λ c. search needs)  -- enum-told
     returns
     sub-read
     part-read-start

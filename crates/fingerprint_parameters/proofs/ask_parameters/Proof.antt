@@ -24,9 +24,6 @@ kept c =
     let k = c .before .k in
     rw (k .given .1) at (reading .ensures)
 
-enum-told : tie.Need-enum-told
-enum-told c = search needs
-
 returns : tie.Need-returns
 returns c =
     let args = c .before .before .before .before .before .before .args in
@@ -79,7 +76,7 @@ ask-parameters-spec =
     (tie.spec
     (λ c κs. search needs)  -- read-ids-requires
     (λ c. search needs)  -- enum-known-k
-    enum-told
+    (λ c. search needs)  -- enum-told
     (λ c κs. search needs)  -- without-ids-requires
     returns
     (λ c κs. search needs)  -- all-new-requires

@@ -99,9 +99,6 @@ loop-holds c =
     let pre = c .before .pre in
     (zero-le, pre, refl)
 
-enum-told : tie.Need-enum-told Inv-loop μ-loop
-enum-told c = search needs
-
 returns : tie.Need-returns Inv-loop μ-loop
 returns c =
     let args = c .before .before .before .before .before .before .before .args in
@@ -168,7 +165,7 @@ each-among-later-spec =
     (λ c. search needs)  -- part-one-parameter-end
     (λ c κs. search needs)  -- one-parameter-requires
     (λ c. search needs)  -- enum-known-id
-    enum-told
+    (λ c. search needs)  -- enum-told
     returns
     add-at
     sub-has-id

@@ -65,9 +65,6 @@ loop-holds c =
     let pre = c .before .pre in
     (zero-le, pre, refl)
 
-enum-told : tie.Need-enum-told Inv-loop μ-loop
-enum-told c = search needs
-
 returns : tie.Need-returns Inv-loop μ-loop
 returns c =
     let args = c .before .before .before .before .before .before .before .args in
@@ -131,7 +128,7 @@ has-id-spec =
     (λ c. search needs)  -- part-one-parameter-end
     (λ c κs. search needs)  -- one-parameter-requires
     (λ c. search needs)  -- enum-known-i
-    enum-told
+    (λ c. search needs)  -- enum-told
     returns
     returns-2
     add-at

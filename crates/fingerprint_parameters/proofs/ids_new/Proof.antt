@@ -3,9 +3,6 @@ use borrow.Author.Needs.{needs}
 use Rattle.fingerprint_parameters.proofs.ids_new.Statement.{statement}
 use Rattle.fingerprint_parameters.proofs.ids_new.Tie as tie
 
-enum-told : tie.Need-enum-told
-enum-told c = search needs
-
 returns : tie.Need-returns
 returns c = sym (rw (c .enum-told .given .1) at (c .before .before .ids-in-order .ensures))
 
@@ -23,7 +20,7 @@ ids-new-spec =
     tie.close
     (tie.spec
     (λ c κs. search needs)  -- ids-in-order-requires
-    enum-told
+    (λ c. search needs)  -- enum-told
     (λ c. search needs)  -- enum-told-2
     (λ c. search needs)  -- enum-told-3
     (λ c κs. search needs)  -- ids-in-order-requires-2

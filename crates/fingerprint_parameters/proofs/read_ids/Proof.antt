@@ -70,9 +70,6 @@ loop-holds c =
     let args = c .before .before .args in
     reading-start (now (args .body)) (now (args .ids))
 
-enum-told : tie.Need-enum-told Inv-loop μ-loop
-enum-told c = search needs
-
 returns : tie.Need-returns Inv-loop μ-loop
 returns c =
     let args = c .before .before .before .before .before .before .before .before .args in
@@ -122,7 +119,7 @@ read-ids-spec =
     (λ c. search needs)  -- part-one-parameter-end
     (λ c κs. search needs)  -- one-parameter-requires
     (λ c. search needs)  -- enum-known-id
-    enum-told
+    (λ c. search needs)  -- enum-told
     (λ c. search needs)  -- same-length
     returns
     (λ c. search needs)  -- mul-ids

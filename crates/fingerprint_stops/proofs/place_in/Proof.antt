@@ -28,9 +28,6 @@ found c =
     let args = c .before .before .before .before .before .args in
     subst (λ (x : Header). HeaderAs x (now (args .hello)) (args .at)) (c .before .t .given .1) (c .before .before .before .read-header .ensures)
 
-enum-told : tie.Need-enum-told
-enum-told c = search needs
-
 returns : tie.Need-returns
 returns c =
     let args = c .before .before .before .before .args in
@@ -74,7 +71,7 @@ place-in-spec =
     (tie.spec
     (λ c κs. search needs)  -- read-header-requires
     (λ c. search needs)  -- enum-known-t
-    enum-told
+    (λ c. search needs)  -- enum-told
     returns
     (λ c κs. search needs)  -- among-requires
     returns-2

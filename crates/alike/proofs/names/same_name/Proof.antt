@@ -14,9 +14,6 @@ part-requires c κs = subst (λ (n : Sni). SniInside (c .before .before .before 
 part-requires-2 : tie.Need-part-requires-2
 part-requires-2 c κs = subst (λ (n : Sni). SniInside (c .before .before .before .before .before .before .before .before .before .args .b .now) n) (c .before .before .y .given .1) (c .before .before .before .before .before .before .before .before .before .pre .1)
 
-enum-told : tie.Need-enum-told
-enum-told c = search needs
-
 returns : tie.Need-returns
 unfolding sameName
 returns c =
@@ -43,7 +40,7 @@ same-name-spec =
     part-requires
     part-requires-2
     (λ c κs. search needs)  -- same-requires
-    enum-told
+    (λ c. search needs)  -- enum-told
     (λ c. search needs)  -- enum-told-2
     (λ c. search needs)  -- enum-told-3
     (λ c. search needs)  -- enum-told-4

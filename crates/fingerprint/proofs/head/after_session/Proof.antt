@@ -43,9 +43,6 @@ returns-4 c =
     not-in-form (c .before .before .before .before .before .before .before .args .hello .now) (afterSession (p .version) (p .random) (p .id) (drop (39 + (c .before .before .before .before .before .before .before .args .session)) (c .before .before .before .before .before .before .before .args .hello .now))) (p .is)
     (suites-cut (p .version) (p .random) (p .id) (c .before .before .before .before .before .before .before .args .hello .now) (39 + (c .before .before .before .before .before .before .before .args .session)) (p .inside) (c .before .before .before .before .before .if1 .left) (c .before .before .before .be16 .result) (count (c .before .before .before)) (c .if4 .taken))
 
-enum-told : tie.Need-enum-told
-enum-told c = search needs
-
 returns-5 : tie.Need-returns-5
 returns-5 c =
     let cut = subst (λ (x : Place). BlockAs x (c .before .before .before .before .before .before .before .before .before .before .args .hello .now) (39 + (c .before .before .before .before .before .before .before .before .before .before .args .session) + 2 + (c .before .before .before .before .before .before .be16 .result))) (c .enum-told .given .1) (c .before .before .after-suites .ensures) in
@@ -75,6 +72,6 @@ after-session-spec =
     (λ c. search needs)  -- add-after-suites
     (λ c κs. search needs)  -- after-suites-requires
     (λ c. search needs)  -- enum-known-block
-    enum-told
+    (λ c. search needs)  -- enum-told
     returns-5
     returns-6)

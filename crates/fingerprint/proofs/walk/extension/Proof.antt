@@ -53,9 +53,6 @@ body-asked c =
     subst (λ (k : Kind). BodyAsked k (take (given .1 .1 .0 - given .1 .0) (drop (given .1 .0) (now (args .hello)))) (c .ask-body .result) (now (args .ids)) (c .ask-body .last .1 .1 .0))
     (ap kindAt (c .before .before .before .slot .ensures) ∙ kind-at-slot (kind (given .0))) (c .ask-body .ensures)
 
-enum-told : tie.Need-enum-told
-enum-told c = search needs
-
 returns : tie.Need-returns
 returns c =
     let args = c .before .before .before .before .args in
@@ -109,7 +106,7 @@ extension-spec =
     (tie.spec
     (λ c κs. search needs)  -- read-header-requires
     (λ c. search needs)  -- enum-known-t
-    enum-told
+    (λ c. search needs)  -- enum-told
     returns
     (λ c κs. search needs)  -- is-known-requires
     returns-2

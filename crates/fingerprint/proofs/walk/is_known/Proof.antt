@@ -9,18 +9,6 @@ use borrow.Author.Needs.{needs}
 use Rattle.fingerprint.proofs.walk.is_known.Statement.{statement}
 use Rattle.fingerprint.proofs.walk.is_known.Tie as tie
 
-mark-requires : tie.Need-mark-requires
-mark-requires c κs = search needs
-
-element-copy-out-if1 : tie.Need-element-copy-out-if1
-element-copy-out-if1 c = search needs
-
-among-requires : tie.Need-among-requires
-among-requires c κs = search needs
-
-returns : tie.Need-returns
-returns c = search needs
-
 returns-2 : tie.Need-returns-2
 returns-2 c =
     let args = c .before .before .before .args in
@@ -30,4 +18,10 @@ returns-2 c =
 
 pub is-known-spec : {M : Type 1} → statement M
 is-known-spec =
-    tie.close (tie.spec mark-requires element-copy-out-if1 among-requires returns returns-2)
+    tie.close
+    (tie.spec
+    (λ c κs. search needs)  -- mark-requires
+    (λ c. search needs)  -- element-copy-out-if1
+    (λ c κs. search needs)  -- among-requires
+    (λ c. search needs)  -- returns
+    returns-2)

@@ -52,9 +52,6 @@ loop-holds c =
     let args = c .before .args in
     (zero-le, zero-le, ap (λ (l : List ℕ). member (args .id) l) (ids-start (now (args .body)) (args .k)))
 
-enum-told : tie.Need-enum-told Inv-loop μ-loop
-enum-told c = search needs
-
 returns : tie.Need-returns Inv-loop μ-loop
 returns c =
     let args = c .before .before .before .before .before .before .before .args in
@@ -103,7 +100,7 @@ among-first-spec =
     (λ c. search needs)  -- part-one-parameter-end
     (λ c κs. search needs)  -- one-parameter-requires
     (λ c. search needs)  -- enum-known-other
-    enum-told
+    (λ c. search needs)  -- enum-told
     returns
     returns-2
     add-at

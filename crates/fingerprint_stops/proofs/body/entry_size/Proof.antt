@@ -41,9 +41,6 @@ parameter-found c =
 add-result : tie.Need-add-result
 add-result c = omega (arith, name-found c .within)
 
-enum-told : tie.Need-enum-told
-enum-told c = search needs
-
 returns : tie.Need-returns
 returns c =
     let args = c .before .before .before .args in
@@ -116,7 +113,7 @@ entry-size-spec =
     (λ c κs. search needs)  -- one-name-requires
     (λ c. search needs)  -- enum-known-length
     add-result
-    enum-told
+    (λ c. search needs)  -- enum-told
     (λ c κs. search needs)  -- word-size-requires-3
     (λ c κs. search needs)  -- one-share-requires
     (λ c. search needs)  -- enum-known-used

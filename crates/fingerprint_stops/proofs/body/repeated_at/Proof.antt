@@ -34,9 +34,6 @@ found c = rw (c .before .id .given .1) at (inner (c .before .before .before))
 loop-holds : tie.Need-loop-holds Inv-loop μ-loop
 loop-holds c = repeating-start (now (c .before .args .body))
 
-enum-told : tie.Need-enum-told Inv-loop μ-loop
-enum-told c = search needs
-
 returns : tie.Need-returns Inv-loop μ-loop
 returns c =
     let loop = c .before .before .before .before .before .loop in
@@ -88,7 +85,7 @@ repeated-at-spec =
     (λ c. search needs)  -- part-one-parameter-end
     (λ c κs. search needs)  -- one-parameter-requires
     (λ c. search needs)  -- enum-known-id
-    enum-told
+    (λ c. search needs)  -- enum-told
     returns
     (λ c κs. search needs)  -- among-first-requires
     returns-2
