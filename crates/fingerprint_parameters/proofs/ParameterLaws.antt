@@ -1,5 +1,5 @@
 -- The parameters of a body one by one: each takes a byte or more, so what follows it is read like a body of its own. Assumes nothing.
-use Prim.Native.Nat.{ℕ, zero, suc, _+_, _≤_, _<_}
+use Prim.Native.Nat.{ℕ, zero, suc, _+_, _-_, _≤_, _<_}
 use mathlib.Core.Path.{_≡_, refl, sym, ap, _∙_}
 use mathlib.Core.Bool.{Bool, true, false, cond}
 use mathlib.Core.List.{List, [], _∷_, map}
@@ -11,6 +11,7 @@ use lib.Seq.{drop-drop}
 use lib.Dec.{leb}
 use Rattle.wire.specs.Answer.{Answer, result, refused}
 use Rattle.wire.specs.Numbers.{Bytes}
+use Rattle.wire.proofs.ListLaws.{part-to-end}
 use Rattle.wire.proofs.NumberLaws.{bytes-drop}
 use Rattle.varint.specs.Varint.{classAt, readOf}
 use Rattle.varint.specs.declared.Varint.{Varint}
@@ -21,7 +22,9 @@ use Rattle.fingerprint_bodies.specs.Entries.{Entry, entry, bind, mapped, orEmpt
 use Rattle.fingerprint_bodies.specs.Body.{Number, Parameter}
 use Rattle.fingerprint_bodies.specs.Forms.{varintFound, varintAt, oneParameter, transportParameters, idOf}
 use Rattle.fingerprint_bodies.proofs.EntryLaws.{There, there-first, or-first, there-not}
-use Rattle.fingerprint_parameters.specs.Code.{ParameterFound, idsOf, idsIn}
+use Rattle.fingerprint_parameters.specs.Code.{ParameterFound, ParameterAs, idsOf, idsIn}
+use Rattle.fingerprint_parameters.specs.declared.Parameter as code
+use Rattle.fingerprint_parameters.specs.declared.Parameter.the-variants as read
 
 -- ---- where a whole is there, so is each of its pieces, and what follows it is a later part of the same bytes
 
@@ -127,44 +130,55 @@ parameters-next (x ∷ r) v used b h u e =
 
 -- ---- a body from a place on
 
-module _ (l : List ℕ) (at : ℕ) (i : at < length l) where
+mapped-first : (v : Parameter) (n : ℕ) → idOf v ≡ n → (x : Option (List Parameter))
+    → mapped (λ r. map idOf r) (first v x) ≡ mapped (λ r. n ∷ r) (mapped (λ r. map idOf r) x)
+unfolding mapped first
+mapped-first v n e none = refl
+mapped-first v n e (some r) = rw e
+
+-- a parameter stands at the place: what it says of the body from there on, and from its end on
+pub record Next (l : List ℕ) (at id used : ℕ) : Type 0 where
+  pub some : 1 ≤ used
+  pub within : at + used ≤ length l
+  pub ids-of : idsOf (drop at l) ≡ mapped (λ r. id ∷ r) (idsOf (drop (at + used) l))
+  pub there : There (transportParameters (drop at l)) → There (transportParameters (drop (at + used) l))
+  pub ids : There (transportParameters (drop at l)) → idsIn (drop at l) ≡ id ∷ idsIn (drop (at + used) l)
+
+-- what `one_parameter` says of the part that begins at the place
+module _ (l : List ℕ) (at : ℕ) (i : at < length l) (r : code.Parameter) (p : ParameterAs r (take (length l - at) (drop at l))) where
   some-left : 0 < length (drop at l)
   some-left = omega (arith, length-drop at l)
 
-  pub cut-there : oneParameter (drop at l) ≡ none → There (transportParameters (drop at l)) → ⊥
-  cut-there e t = there-not (transportParameters (drop at l)) t (parameters-cut (drop at l) some-left e)
+  none-there : r ≡ read.Cut → transportParameters (drop at l) ≡ none
+  none-there e = parameters-cut (drop at l) some-left (rw (part-to-end l at, e) at p)
 
-  pub ids-cut : oneParameter (drop at l) ≡ none → idsOf (drop at l) ≡ none
+  pub cut-there : r ≡ read.Cut → There (transportParameters (drop at l)) → ⊥
+  cut-there e t = there-not (transportParameters (drop at l)) t (none-there e)
+
+  pub ids-cut : r ≡ read.Cut → idsOf (drop at l) ≡ none
   unfolding idsOf mapped
-  ids-cut e = rw (parameters-cut (drop at l) some-left e)
+  ids-cut e = rw (none-there e)
 
-  module _ (b : Bytes l) (id used : ℕ) (f : ParameterFound (drop at l) id used) where
-    next-is : transportParameters (drop at l) ≡ first (f .found) (transportParameters (drop (at + used) l))
-    next-is = rw (drop-drop used at l) at (parameters-next (drop at l) (f .found) used (bytes-drop at l b) some-left (f .some) (f .is))
+  module _ (b : Bytes l) {id used : ℕ} (e : r ≡ read.Whole id used) where
+    found : ParameterFound (drop at l) id used
+    found = rw (part-to-end l at, e) at p
 
-    pub next-within : at + used ≤ length l
-    next-within = omega (arith, f .within, length-drop at l)
+    next-is : transportParameters (drop at l) ≡ first (found .found) (transportParameters (drop (at + used) l))
+    next-is = rw (drop-drop used at l) at (parameters-next (drop at l) (found .found) used (bytes-drop at l b) some-left (found .some) (found .is))
 
-    pub next-ids-of : idsOf (drop at l) ≡ mapped (λ r. id ∷ r) (idsOf (drop (at + used) l))
-    unfolding idsOf mapped first
-    next-ids-of = rw next-is (go (transportParameters (drop (at + used) l)))
-      where
-        go : (x : Option (List Parameter)) → mapped (λ r. map idOf r) (first (f .found) x) ≡ mapped (λ r. id ∷ r) (mapped (λ r. map idOf r) x)
-        go none = refl
-        go (some r) = rw (f .id-is)
-
-    module _ (t : There (transportParameters (drop at l))) where
-      next-some : There (first (f .found) (transportParameters (drop (at + used) l)))
-      next-some = rw next-is at t
-
-      pub next-there : There (transportParameters (drop (at + used) l))
-      next-there = there-first (f .found) (transportParameters (drop (at + used) l)) next-some
-
-      pub next-ids : idsIn (drop at l) ≡ id ∷ idsIn (drop (at + used) l)
-      next-ids =
-          ap (λ (x : Option (List Parameter)). map idOf (orEmpty x)) next-is
-          ∙ ap (λ (r : List Parameter). map idOf r) (or-first (f .found) (transportParameters (drop (at + used) l)) next-some)
-          ∙ ap (λ (n : ℕ). n ∷ idsIn (drop (at + used) l)) (f .id-is)
+    pub next : Next l at id used
+    unfolding idsOf
+    next =
+        record {
+          some = found .some;
+          within = omega (arith, found .within, length-drop at l);
+          ids-of = rw next-is (mapped-first (found .found) id (found .id-is) (transportParameters (drop (at + used) l)));
+          there = λ t. there-first (found .found) (transportParameters (drop (at + used) l)) (rw next-is at t);
+          ids = λ t.
+              ap (λ (x : Option (List Parameter)). map idOf (orEmpty x)) next-is
+              ∙ ap (λ (r : List Parameter). map idOf r) (or-first (found .found) (transportParameters (drop (at + used) l)) (rw next-is at t))
+              ∙ ap (λ (n : ℕ). n ∷ idsIn (drop (at + used) l)) (found .id-is);
+        }
 
 module _ (l : List ℕ) (at : ℕ) (h : length l ≤ at) where
   none-left : transportParameters (drop at l) ≡ some []

@@ -1,20 +1,18 @@
 -- What `read_ids` has read when it stands before a parameter, and what that says at its end. Assumes nothing.
-use Prim.Native.Nat.{ℕ, _+_, _≤_, _<_}
+use Prim.Native.Nat.{ℕ, _+_, _≤_}
 use mathlib.Core.Path.{_≡_, refl, sym, ap, _∙_}
 use mathlib.Core.List.{List, [], _∷_, _++_, append-assoc, append-nil}
 use mathlib.Core.Option.{Option, none, some}
 use native.Mathlib.Omega.{arith}
 use lib.ListN.{length, take, drop, set, getD, length-append, length-set}
 use lib.Seq.{getD-at, take-at, take-all}
-use Rattle.wire.specs.Numbers.{Bytes}
 use Rattle.wire.specs.Front.{front}
 use Rattle.wire.proofs.FrontLaws.{front-none, front-more}
 use Rattle.fingerprint_bodies.specs.Entries.{mapped}
 use Rattle.fingerprint_bodies.proofs.BindLaws.{none-some, same-some}
-use Rattle.fingerprint_bodies.specs.Forms.{oneParameter}
-use Rattle.fingerprint_parameters.specs.Code.{ParameterFound, idsOf, Kept}
+use Rattle.fingerprint_parameters.specs.Code.{idsOf, Kept}
 use Rattle.fingerprint_parameters.specs.declared.Count.the-variants as count
-use Rattle.fingerprint_parameters.proofs.ParameterLaws.{ids-cut, ids-of-end, next-ids-of, next-within}
+use Rattle.fingerprint_parameters.proofs.ParameterLaws.{Next, ids-of-end}
 
 -- k parameters stand before the place `at`: these ids, of which the array has those that it has room for
 pub record Reading (body old ids : List ℕ) (at k : ℕ) : Type 0 where
@@ -49,18 +47,18 @@ reading-start body ids =
     }
 
 module _ (body old ids : List ℕ) (at k : ℕ) (r : Reading body old ids at k) where
-  pub reading-next : Bytes body → at < length body → (id used : ℕ) → ParameterFound (drop at body) id used → Reading body old (set ids k id) (at + used) (k + 1)
-  reading-next b h id used f =
+  pub reading-next : (id used : ℕ) → Next body at id used → Reading body old (set ids k id) (at + used) (k + 1)
+  reading-next id used n =
       record {
         before = r .before ++ (id ∷ []);
         long = omega (arith, length-append (r .before) (id ∷ []), r .long);
         is =
             r .is
-            ∙ ap (λ (x : Option (List ℕ)). mapped (λ l. r .before ++ l) x) (next-ids-of body at h b id used f)
+            ∙ ap (λ (x : Option (List ℕ)). mapped (λ l. r .before ++ l) x) (n .ids-of)
             ∙ mapped-last (r .before) id (idsOf (drop (at + used) body));
         kept = kept-next;
-        few = omega (arith, r .few, f .some);
-        within = next-within body at h b id used f;
+        few = omega (arith, r .few, n .some);
+        within = n .within;
         size = length-set ids k id ∙ r .size;
       }
     where
@@ -73,10 +71,10 @@ module _ (body old ids : List ℕ) (at k : ℕ) (r : Reading body old ids at k) 
           let more = front-more k all old (omega (arith, counted)) (omega (arith, counted, p)) in
           rw (r .kept (omega (arith, p))) (rw (these, this, take-all (k + 1) all (omega (arith, counted))) at more)
 
-  pub reading-cut : at < length body → oneParameter (drop at body) ≡ none → Kept (idsOf body) count.Cut old ids
+  pub reading-cut : idsOf (drop at body) ≡ none → Kept (idsOf body) count.Cut old ids
   unfolding mapped
-  reading-cut h e =
-      let cut : idsOf body ≡ none = r .is ∙ rw (ids-cut body at h e) in
+  reading-cut e =
+      let cut : idsOf body ≡ none = r .is ∙ rw e in
       record {
         is = rw cut;
         size = r .size;

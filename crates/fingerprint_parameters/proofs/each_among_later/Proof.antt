@@ -1,17 +1,16 @@
 -- The loop keeps: the ids are distinct exactly where those from the place on are. Assumes nothing.
 use mathlib.Core.Path.{_≡_, refl, sym, _∙_}
 use Prim.Native.Nat.{_+_, _-_, _≤_, zero-le}
-use mathlib.Core.List.{_∷_}
 use denote.Ref.{now}
 use lib.ListN.{length, drop}
-use Rattle.wire.specs.Numbers.{Bytes}
 use Rattle.wire.specs.Sums.{member, distinct}
 use Rattle.wire.proofs.ListLaws.{part-to-end}
 use Rattle.fingerprint_bodies.specs.Forms.{transportParameters}
 use Rattle.fingerprint_bodies.proofs.EntryLaws.{There}
-use Rattle.fingerprint_parameters.specs.Code.{ParameterFound, ParameterAs, idsIn}
+use Rattle.fingerprint_parameters.specs.Code.{idsIn}
 use Rattle.fingerprint_order.proofs.MemberLaws.{distinct-nil, distinct-not, distinct-later}
-use Rattle.fingerprint_parameters.proofs.ParameterLaws.{cut-there, next-within, next-there, next-ids, ids-end}
+use Rattle.fingerprint_parameters.proofs.ParameterLaws as laws
+use Rattle.fingerprint_parameters.proofs.ParameterLaws.{Next, cut-there, ids-end}
 use borrow.Author.Needs.{needs}
 use native.Mathlib.Omega.{arith}
 use Rattle.fingerprint_parameters.proofs.each_among_later.Statement.{statement}
@@ -23,65 +22,18 @@ Inv-loop body n at₀ at = (at ≤ length body) × There (transportParameters (d
 abbrev μ-loop : tie.MeasureT-loop
 μ-loop body n at₀ at = length body - at
 
-bytes : (c : tie.After-shared-slice-known Inv-loop μ-loop) →
-    let args = c .before .args in
-    Bytes (now (args .body))
-bytes c = λ k. c .shared-slice-known .given k .fits
-
-inner : (c : tie.After-one-parameter Inv-loop μ-loop) →
-    let args = c .before .before .before .before .before .args in
-    let loop = c .before .before .before .loop in
-    ParameterAs (c .one-parameter .result) (drop (loop .at) (now (args .body)))
-inner c =
-    let args = c .before .before .before .before .before .args in
-    let loop = c .before .before .before .loop in
-    rw (part-to-end (now (args .body)) (loop .at)) at (c .one-parameter .ensures)
-
-found : (c : tie.After-known-told Inv-loop μ-loop) →
+next : (c : tie.After-known-told Inv-loop μ-loop) →
     let args = c .before .before .before .before .before .before .before .before .args in
     let loop = c .before .before .before .before .before .before .loop in
     let id = c .before .id in
-    ParameterFound (drop (loop .at) (now (args .body))) (id .given .0 .0) (id .given .0 .1 .0)
-found c =
-    let at-call = c .before .before .before in
-    let id = c .before .id in
-    rw (id .given .1) at (inner at-call)
-
-within : (c : tie.After-known-told Inv-loop μ-loop) →
-    let args = c .before .before .before .before .before .before .before .before .args in
-    let loop = c .before .before .before .before .before .before .loop in
-    let id = c .before .id in
-    loop .at + id .given .0 .1 .0 ≤ length (now (args .body))
-within c =
+    Next (now (args .body)) (loop .at) (id .given .0 .0) (id .given .0 .1 .0)
+next c =
     let args = c .before .before .before .before .before .before .before .before .args in
     let start = c .before .before .before .before .before .before .before in
     let loop = c .before .before .before .before .before .before .loop in
     let test = c .before .before .before .before .before .loop-test in
-    next-within (now (args .body)) (loop .at) (test .taken) (bytes start) _ _ (found c)
-
-there : (c : tie.After-known-told Inv-loop μ-loop) →
-    let args = c .before .before .before .before .before .before .before .before .args in
-    let loop = c .before .before .before .before .before .before .loop in
-    let id = c .before .id in
-    There (transportParameters (drop (loop .at + id .given .0 .1 .0) (now (args .body))))
-there c =
-    let args = c .before .before .before .before .before .before .before .before .args in
-    let start = c .before .before .before .before .before .before .before in
-    let loop = c .before .before .before .before .before .before .loop in
-    let test = c .before .before .before .before .before .loop-test in
-    next-there (now (args .body)) (loop .at) (test .taken) (bytes start) _ _ (found c) (loop .inv .1)
-
-rest : (c : tie.After-known-told Inv-loop μ-loop) →
-    let args = c .before .before .before .before .before .before .before .before .args in
-    let loop = c .before .before .before .before .before .before .loop in
-    let id = c .before .id in
-    idsIn (drop (loop .at) (now (args .body))) ≡ id .given .0 .0 ∷ idsIn (drop (loop .at + id .given .0 .1 .0) (now (args .body)))
-rest c =
-    let args = c .before .before .before .before .before .before .before .before .args in
-    let start = c .before .before .before .before .before .before .before in
-    let loop = c .before .before .before .before .before .before .loop in
-    let test = c .before .before .before .before .before .loop-test in
-    next-ids (now (args .body)) (loop .at) (test .taken) (bytes start) _ _ (found c) (loop .inv .1)
+    let call = c .before .before .before .one-parameter in
+    laws.next (now (args .body)) (loop .at) (test .taken) _ (call .ensures) (λ k. start .shared-slice-known .given k .fits) (c .before .id .given .1)
 
 looked : (c : tie.After-has-id Inv-loop μ-loop) →
     let args = c .before .before .before .before .before .before .before .before .before .before .args in
@@ -104,47 +56,46 @@ returns c =
     let args = c .before .before .before .before .before .before .before .args in
     let loop = c .before .before .before .before .before .loop in
     let test = c .before .before .before .before .loop-test in
-    let at-call = c .before .before in
-    absurd (cut-there (now (args .body)) (loop .at) (test .taken) (rw (c .enum-told .given .1) at (inner at-call)) (loop .inv .1))
+    let call = c .before .before .one-parameter in
+    absurd (cut-there (now (args .body)) (loop .at) (test .taken) _ (call .ensures) (c .enum-told .given .1) (loop .inv .1))
 
 add-at : tie.Need-add-at Inv-loop μ-loop
-add-at c = omega (arith, within c)
+add-at c = omega (arith, next c .within)
 
 sub-has-id : tie.Need-sub-has-id Inv-loop μ-loop
-sub-has-id c = within c
+sub-has-id c = next c .within
 
 part-has-id-start : tie.Need-part-has-id-start Inv-loop μ-loop
-part-has-id-start c = omega (arith, within c)
+part-has-id-start c = omega (arith, next c .within)
 
 has-id-requires : tie.Need-has-id-requires Inv-loop μ-loop
 has-id-requires c κs =
     let args = c .before .before .before .before .before .before .before .before .before .args in
     let loop = c .before .before .before .before .before .before .before .loop in
     let id = c .before .before .id in
-    let at-entry = c .before in
-    rw (part-to-end (now (args .body)) (loop .at + id .given .0 .1 .0)) (there at-entry)
+    rw (part-to-end (now (args .body)) (loop .at + id .given .0 .1 .0)) (next (c .before) .there (loop .inv .1))
 
 returns-2 : tie.Need-returns-2 Inv-loop μ-loop
 returns-2 c =
     let loop = c .before .before .before .before .before .before .before .before .before .loop in
     let at-entry = c .before .before .before in
     let at-look = c .before in
-    sym (loop .inv .2 ∙ rw (rest at-entry) (distinct-not _ _ (sym (looked at-look) ∙ c .if1 .taken)))
+    sym (loop .inv .2 ∙ rw (next at-entry .ids (loop .inv .1)) (distinct-not _ _ (sym (looked at-look) ∙ c .if1 .taken)))
 
 loop-less : tie.Need-loop-less Inv-loop μ-loop
 loop-less c =
     let test = c .before .before .before .before .before .before .before .before .loop-test in
     let at-entry = c .before .before .before in
-    omega (arith, test .taken, (found at-entry) .some)
+    omega (arith, test .taken, next at-entry .some)
 
 loop-again : tie.Need-loop-again Inv-loop μ-loop
 loop-again c =
     let loop = c .before .before .before .before .before .before .before .before .before .loop in
     let at-entry = c .before .before .before in
     let at-look = c .before in (
-      within at-entry,
-      there at-entry,
-      loop .inv .2 ∙ rw (rest at-entry) (distinct-later _ _ (sym (looked at-look) ∙ c .if1 .left)),
+      next at-entry .within,
+      next at-entry .there (loop .inv .1),
+      loop .inv .2 ∙ rw (next at-entry .ids (loop .inv .1)) (distinct-later _ _ (sym (looked at-look) ∙ c .if1 .left)),
     )
 
 returns-3 : tie.Need-returns-3 Inv-loop μ-loop

@@ -1,13 +1,12 @@
 -- The loop keeps `Reading`. A store past the end of the array would change nothing, so both branches store alike. Assumes nothing.
 use mathlib.Core.Path.{_≡_, sym, _∙_}
 use mathlib.Core.Logic.{⊎-elim}
-use Prim.Native.Nat.{_+_, _-_}
+use Prim.Native.Nat.{_-_}
 use denote.Ref.{now}
-use lib.ListN.{length, drop, set}
+use lib.ListN.{length, set}
 use lib.Seq.{set-out}
-use Rattle.wire.specs.Numbers.{Bytes}
-use Rattle.wire.proofs.ListLaws.{part-to-end}
-use Rattle.fingerprint_parameters.specs.Code.{ParameterFound, ParameterAs}
+use Rattle.fingerprint_parameters.proofs.ParameterLaws as laws
+use Rattle.fingerprint_parameters.proofs.ParameterLaws.{Next, ids-cut}
 use Rattle.fingerprint_parameters.proofs.ReadingLaws.{Reading, reading-start, reading-next, reading-cut, reading-end}
 use borrow.Author.Needs.{needs}
 use native.Mathlib.Omega.{arith}
@@ -20,41 +19,18 @@ Inv-loop body ids₀ n room at₀ k₀ ids at k = Reading body ids₀ ids at k
 abbrev μ-loop : tie.MeasureT-loop
 μ-loop body ids₀ n room at₀ k₀ ids at k = length body - at
 
-bytes : (c : tie.After-shared-slice-known Inv-loop μ-loop) →
-    let args = c .before .args in
-    Bytes (now (args .body))
-bytes c = λ k. c .shared-slice-known .given k .fits
-
-inner : (c : tie.After-one-parameter Inv-loop μ-loop) →
-    let args = c .before .before .before .before .before .before .args in
-    let loop = c .before .before .before .loop in
-    ParameterAs (c .one-parameter .result) (drop (loop .at) (now (args .body)))
-inner c =
-    let args = c .before .before .before .before .before .before .args in
-    let loop = c .before .before .before .loop in
-    rw (part-to-end (now (args .body)) (loop .at)) at (c .one-parameter .ensures)
-
-found : (c : tie.After-known-told Inv-loop μ-loop) →
-    let args = c .before .before .before .before .before .before .before .before .before .args in
-    let loop = c .before .before .before .before .before .before .loop in
-    let id = c .before .id in
-    ParameterFound (drop (loop .at) (now (args .body))) (id .given .0 .0) (id .given .0 .1 .0)
-found c =
-    let at-call = c .before .before .before in
-    let id = c .before .id in
-    rw (id .given .1) at (inner at-call)
-
 next : (c : tie.After-known-told Inv-loop μ-loop) →
     let args = c .before .before .before .before .before .before .before .before .before .args in
     let loop = c .before .before .before .before .before .before .loop in
     let id = c .before .id in
-    Reading (now (args .body)) (now (args .ids)) (set (loop .ids) (loop .k) (id .given .0 .0)) (loop .at + id .given .0 .1 .0) (loop .k + 1)
+    Next (now (args .body)) (loop .at) (id .given .0 .0) (id .given .0 .1 .0)
 next c =
     let args = c .before .before .before .before .before .before .before .before .before .args in
     let start = c .before .before .before .before .before .before .before .before in
     let loop = c .before .before .before .before .before .before .loop in
     let test = c .before .before .before .before .before .loop-test in
-    reading-next (now (args .body)) (now (args .ids)) (loop .ids) (loop .at) (loop .k) (loop .inv) (bytes start) (test .taken) _ _ (found c)
+    let call = c .before .before .before .one-parameter in
+    laws.next (now (args .body)) (loop .at) (test .taken) _ (call .ensures) (λ k. start .shared-slice-known .given k .fits) (c .before .id .given .1)
 
 stored : (c : tie.Joined1 Inv-loop μ-loop) →
     let loop = c .before .before .before .before .before .before .before .loop in
@@ -75,14 +51,11 @@ returns c =
     let args = c .before .before .before .before .before .before .before .before .args in
     let loop = c .before .before .before .before .before .loop in
     let test = c .before .before .before .before .loop-test in
-    let at-call = c .before .before in
-    let cut = rw (c .enum-told .given .1) at (inner at-call) in
-    reading-cut (now (args .body)) (now (args .ids)) (loop .ids) (loop .at) (loop .k) (loop .inv) (test .taken) cut
+    let cut = ids-cut (now (args .body)) (loop .at) (test .taken) _ (c .before .before .one-parameter .ensures) (c .enum-told .given .1) in
+    reading-cut (now (args .body)) (now (args .ids)) (loop .ids) (loop .at) (loop .k) (loop .inv) cut
 
 add-at : tie.Need-add-at Inv-loop μ-loop
-add-at c =
-    let at-entry = c .before in
-    omega (arith, (next at-entry) .within)
+add-at c = omega (arith, next (c .before) .within)
 
 add-k : tie.Need-add-k Inv-loop μ-loop
 add-k c =
@@ -93,13 +66,13 @@ add-k c =
 loop-less : tie.Need-loop-less Inv-loop μ-loop
 loop-less c =
     let test = c .before .before .before .before .before .before .loop-test in
-    let at-entry = c .before in
-    omega (arith, test .taken, (found at-entry) .some)
+    omega (arith, test .taken, next (c .before) .some)
 
 loop-again : tie.Need-loop-again Inv-loop μ-loop
 loop-again c =
-    let at-entry = c .before in
-    rw (stored c) (next at-entry)
+    let args = c .before .before .before .before .before .before .before .before .before .before .args in
+    let loop = c .before .before .before .before .before .before .before .loop in
+    rw (stored c) (reading-next (now (args .body)) (now (args .ids)) (loop .ids) (loop .at) (loop .k) (loop .inv) _ _ (next (c .before)))
 
 returns-2 : tie.Need-returns-2 Inv-loop μ-loop
 returns-2 c =
