@@ -1,10 +1,2 @@
 pub mod ReadLaws
-pub mod PieceLaws
-pub mod EntryLaws
-pub mod PadLaws
-pub mod PlaceLaws
-pub mod FoundLaws
-pub mod LayoutLaws
-pub mod OffsetLaws
-pub mod WrittenLaws
 pub mod ReportLaws

@@ -8,7 +8,7 @@ use Rattle.wire.specs.Answer.{Answer, result, refused}
 use Rattle.wire.specs.Front.{front}
 use Rattle.fingerprint.specs.ClientHello.{ClientHello}
 use Rattle.fingerprint.specs.Report.{report, shown, parsedOf}
-use Rattle.crustdelta_c.specs.Layout.{layout, reportOf, ReportCoded}
+use Rattle.fingerprint_layout.specs.Layout.{layout, reportOf, ReportCoded}
 
 module _ (a : Answer ClientHello) (old : List ℕ) where
   pub report-refused : (n : ℕ) → a ≡ refused n → ReportCoded a old (2 ^ 32 + n) old

@@ -1,20 +1,17 @@
 // The C library: the calls of include/crustdelta.h, numbers and byte slices with C's calling convention. Each answers the result, or 2^32
 // plus the number of the refusal. A number is taken as it is passed, 64 bits wide.
-mod layout; // numbers as bytes
-mod lists; // a report as bytes
-
 ghost use mathlib.Core.Path.{_≡_};
 ghost use mathlib.Core.Bool.{cond};
 ghost use Rattle.fingerprint.specs.Reader.{read};
+ghost use Rattle.fingerprint_layout.specs.Layout.{ReportCoded};
 ghost use Rattle.alike.specs.Alike as definition;
 ghost use Rattle.crustdelta_c.specs.Calls.{lengthOf, MakeCoded, readAnswer, JoinCoded, CutCoded};
-ghost use Rattle.crustdelta_c.specs.Layout.{ReportCoded};
 use fingerprint::head::Head;
 use fingerprint::head::read_head;
 use fingerprint::walk::survey_block;
+use fingerprint_layout::put_report;
 use frames::cutting::Cut;
 use frames::joining::Joined;
-use lists::put_report;
 use tls::Made;
 
 // Makes a hello: its length.

@@ -7,7 +7,7 @@ use Rattle.fingerprint.specs.Reader.{read}
 use Rattle.fingerprint.specs.declared.head.Head.{Head}
 use Rattle.fingerprint.specs.declared.head.Head.the-variants.{Refused}
 use Rattle.fingerprint.proofs.ReportLaws.{read-refused, read-result, helloOf, found-of, readable, length-types}
-use Rattle.crustdelta_c.proofs.FoundLaws.{length-ids}
+use Rattle.fingerprint_layout.proofs.FoundLaws.{length-ids}
 use Rattle.crustdelta_c.proofs.ReportLaws.{report-refused, report-no-room, report-written}
 use native.Mathlib.Omega.{arith}
 use borrow.Author.Needs.{needs}

@@ -1,0 +1,8 @@
+pub mod PieceLaws
+pub mod EntryLaws
+pub mod PadLaws
+pub mod PlaceLaws
+pub mod FoundLaws
+pub mod LayoutLaws
+pub mod OffsetLaws
+pub mod WrittenLaws
