@@ -11,7 +11,7 @@ use Rattle.wire.proofs.SumLaws.{count-cons, distinct-once}
 use Rattle.fingerprint_bodies.specs.Body.{Body, server-name, supported-groups, signature-algorithms, application-protocols, supported-versions, key-shares, transport-parameters, unread, encodeBody}
 use Rattle.fingerprint_bodies.specs.Conditions.{All, FormedBody}
 use Rattle.fingerprint_bodies.specs.Forms.{groupOf, idOf}
-use Rattle.fingerprint_lists.proofs.ReadLaws.{length-placed}
+use Rattle.fingerprint_lists.proofs.WalkLaws.{length-placed}
 use Rattle.fingerprint.specs.ClientHello.{Extension, ClientHello, typeOf, FormedExtension, WellFormed}
 use Rattle.fingerprint.specs.Report.{numbersIn, namesIn, gathered, blockPlace, report}
 use Rattle.fingerprint.specs.InRange.{WithinCounts}

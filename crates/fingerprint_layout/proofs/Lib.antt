@@ -1,5 +1,4 @@
 pub mod PieceLaws
-pub mod EntryLaws
 pub mod PadLaws
 pub mod PlaceLaws
 pub mod FoundLaws

@@ -1,13 +1,13 @@
--- A list written item by item, each in as many bytes as the others: a loop's turns. Assumes nothing.
-use Prim.Native.Nat.{ℕ, zero, suc, _+_, _*_, _/_, _≤_, _<_}
+-- A list written item by item, each in as many bytes as the others: what a loop keeps. Assumes nothing.
+use Prim.Native.Nat.{ℕ, zero, suc, _+_, _*_, _/_, _≤_}
 use mathlib.Core.Path.{_≡_, refl, sym, ap, _∙_}
 use mathlib.Core.List.{List, [], _∷_, _++_, append-assoc, append-nil}
-use native.Mathlib.Numerals.{add-one}
+use native.Mathlib.Nat.{mul-zero, mul-add}
 use native.Mathlib.Omega.{arith}
-use lib.ListN.{length, getD, drop, length-append}
-use lib.Seq.{drop-cons, drop-length}
+use lib.ListN.{length, length-append}
 use Rattle.wire.specs.Front.{front}
-use Rattle.wire.proofs.Writing.{lentFrom, backFrom, Writing, begins, rest-is, filled, next-room, writes, finished, put-as}
+use Rattle.wire.proofs.ListLaws.{length-part-to-end}
+use Rattle.wire.proofs.Writing.{lentFrom, backFrom, Writing, begins, rest-is, filled, next-room, writes, finished, put-as, place-within, same-length}
 use Rattle.fingerprint_lists.specs.declared.Span.{Span}
 use Rattle.fingerprint_layout.specs.Layout.{little, littles, ranges}
 
@@ -22,50 +22,58 @@ unfoldable pub pieces : {A : Type 0} → (A → List ℕ) → List A → List �
 pieces f [] = []
 pieces f (x ∷ xs) = f x ++ pieces f xs
 
--- the items before place i stand in the output, and the rest are still to be written
-abbrev pub Standing : {A : Type 0} → (A → List ℕ) → List A → ℕ → List ℕ → List ℕ → ℕ → Type 0
-Standing f items i old out at = Writing (pieces f items) (pieces f (drop i items)) old out at
+-- i of the items stand in the output, each in w bytes, up to the place `at`; the rest are still to be written
+pub record Standing {A : Type 0} (f : A → List ℕ) (w : ℕ) (all rest : List A) (old out : List ℕ) (i at : ℕ) : Type 0 where
+  pub wide : (x : A) → length (f x) ≡ w
+  pub count : i + length rest ≡ length all
+  pub place : at ≡ w * i
+  pub written : Writing (pieces f all) (pieces f rest) old out at
+  -- what omega wants to know of it
+  pub inside : at ≤ length out
+  pub kept : length out ≡ length old
 
 module _ {A : Type 0} (f : A → List ℕ) (w : ℕ) (wide : (x : A) → length (f x) ≡ w) where
-  pub length-pieces : (items : List A) → length (pieces f items) ≡ w * length items
+  length-pieces : (items : List A) → length (pieces f items) ≡ w * length items
   unfolding pieces
-  length-pieces [] = omega arith
+  length-pieces [] = omega (arith, mul-zero w)
   length-pieces (x ∷ xs) = omega (arith, length-append (f x) (pieces f xs), wide x, length-pieces xs)
 
-  pub none-standing : (items : List A) {old : List ℕ} → w * length items ≤ length old → Standing f items 0 old old 0
-  none-standing items h = begins (pieces f items) _ (rw (length-pieces items) h)
+module _ {A : Type 0} {f : A → List ℕ} {w : ℕ} (wide : (x : A) → length (f x) ≡ w) where
+  standing : {all rest : List A} {old out : List ℕ} {i at : ℕ} → i + length rest ≡ length all → at ≡ w * i
+      → Writing (pieces f all) (pieces f rest) old out at → Standing f w all rest old out i at
+  standing n p s = record { wide = wide; count = n; place = p; written = s; inside = place-within s; kept = same-length s }
 
-  -- the first of the items that are left is written to the part where they begin
-  module _ (x : A) (xs : List A) {whole rest old out : List ℕ} {at : ℕ} (s : Writing whole rest old out at) (e : rest ≡ pieces f (x ∷ xs)) where
-    begun : Writing whole (f x ++ pieces f xs) old out at
+  pub stand-start : {all rest : List A} {old : List ℕ} → all ≡ rest → w * length all ≤ length old → Standing f w all rest old old 0 0
+  stand-start {all} e h =
+      standing (omega (arith, ap length e)) (sym (mul-zero w)) (rest-is (begins (pieces f all) _ (rw (length-pieces f w wide all) h)) (ap (pieces f) e))
+
+module _ {A : Type 0} {f : A → List ℕ} {w : ℕ} {all rest : List A} {old out : List ℕ} {i at : ℕ} (s : Standing f w all rest old out i at) where
+  -- a turn of the loop: x is the first of the rest, and is written to the part `&mut out[at..]`
+  module _ {x : A} {xs : List A} (e : rest ≡ x ∷ xs) where
+    begun : Writing (pieces f all) (f x ++ pieces f xs) old out at
     unfolding pieces
-    begun = rest-is s e
+    begun = rest-is (s .written) (ap (pieces f) e)
 
-    pub next-room-is : w ≤ length (lentFrom at out)
-    next-room-is = next-room (f x) (pieces f xs) begun (wide x)
+    pub stand-room : w ≤ length (lentFrom at out)
+    stand-room = next-room (f x) (pieces f xs) begun (s .wide x)
 
-    pub next-written : {part : List ℕ} → part ≡ front (f x) (lentFrom at out) → Writing whole (pieces f xs) old (backFrom at out part) (at + w)
-    next-written p = writes (f x) (pieces f xs) begun (filled (wide x) p)
+    pub stand-fits : at + w ≤ length out
+    stand-fits = omega (arith, stand-room, length-part-to-end out at, s .inside)
 
-  -- the item at place i of a list
-  module _ (items : List A) (d : A) (i : ℕ) (h : i < length items) {old out : List ℕ} {at : ℕ} (s : Standing f items i old out at) where
-    from : pieces f (drop i items) ≡ pieces f (getD items i d ∷ drop (i + 1) items)
-    from = rw (drop-cons items i d h, add-one i) cc
+    pub stand-next : {part : List ℕ} {to : ℕ} → part ≡ front (f x) (lentFrom at out) → at + w ≡ to → Standing f w all xs old (backFrom at out part) (i + 1) to
+    stand-next {part} p q =
+        let written = writes (f x) (pieces f xs) begun (filled (s .wide x) p) in
+        let place : at + w ≡ w * (i + 1) = omega (arith, s .place, mul-add w i 1) in
+        let one : Standing f w all xs old (backFrom at out part) (i + 1) (at + w) = standing (s .wide) (omega (arith, s .count, ap length e)) place written in
+        rw q at one
 
-    pub item-room : w ≤ length (lentFrom at out)
-    item-room = next-room-is (getD items i d) (drop (i + 1) items) s from
+  module _ (e : rest ≡ []) where
+    pub stand-count : i ≡ length all
+    stand-count = omega (arith, s .count, ap length e)
 
-    pub item-written : {part : List ℕ} → part ≡ front (f (getD items i d)) (lentFrom at out)
-        → Standing f items (i + 1) old (backFrom at out part) (at + w)
-    item-written e = next-written (getD items i d) (drop (i + 1) items) s from e
-
-module _ {A : Type 0} (f : A → List ℕ) (items : List A) {bytes old out : List ℕ} {at : ℕ} where
-  pub none-left : (xs : List A) → pieces f items ≡ bytes → xs ≡ [] → Writing (pieces f items) (pieces f xs) old out at → out ≡ front bytes old
-  unfolding pieces
-  none-left xs b e s = put-as b (finished (rest-is s (rw e refl))) .output
-
-  pub all-written : {i : ℕ} → pieces f items ≡ bytes → i ≡ length items → Standing f items i old out at → out ≡ front bytes old
-  all-written {i} b e s = none-left (drop i items) b (rw (e, drop-length items) refl) s
+    pub stand-end : {bytes : List ℕ} → pieces f all ≡ bytes → out ≡ front bytes old
+    unfolding pieces
+    stand-end b = put-as b (finished (rest-is (s .written) (ap (pieces f) e))) .output
 
 -- ---- numbers, and ranges
 

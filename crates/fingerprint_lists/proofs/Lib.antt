@@ -1,3 +1,4 @@
 pub mod GoodLaws
 pub mod FillLaws
+pub mod WalkLaws
 pub mod ReadLaws

@@ -3,11 +3,11 @@ use denote.Ref.{now}
 use Prim.Native.Nat.{_≤_}
 use mathlib.Core.Path.{ap, _∙_}
 use mathlib.Core.List.{map}
-use lib.ListN.{length, length-map}
+use lib.ListN.{length}
 use Rattle.wire.proofs.Writing.{put-as}
-use Rattle.fingerprint_bodies.specs.Entries.{orEmpty, allEntries}
 use Rattle.fingerprint_bodies.specs.Body as value
-use Rattle.fingerprint_bodies.specs.Forms.{wordsIn, oneShare, groupOf}
+use Rattle.fingerprint_bodies.specs.Forms.{wordsIn, groupOf}
+use Rattle.fingerprint_lists.proofs.WalkLaws.{shareGroups, groups-few}
 use Rattle.fingerprint.proofs.NameLaws.{length-part-of}
 use Rattle.fingerprint_layout.proofs.PlaceLaws.{words-first, words-next, over-end}
 use Rattle.fingerprint_layout.proofs.FoundLaws.{few-words, groups-held, shares-held}
@@ -70,11 +70,10 @@ returns c =
     let after2 = c .before .before .before .after2 in
     let groups = groups-held (pre .1) (part2 .ensures) (after .ensures) in
     let shares = shares-held (pre .1) (c .before .before .before .before .part3 .ensures) (after2 .ensures) in
-    let l = orEmpty (allEntries oneShare (now (after2 .result))) in
     let one = words-first (wordsIn (now (part .result))) (now (args .out)) (few-words (now (part .result)) (few-suites told)) (omega arith) (clear .ensures) (put-list .ensures .1) in
     let two = words-next one (now (args .types)) (omega (arith, pre .2)) (omega arith) (put-words .ensures) in
     let three = words-next two (wordsIn (now (after .result))) (few-words (now (after .result)) (groups .few)) (omega arith) (put-list2 .ensures .1) in
-    let four = words-next three (map groupOf l) (omega (arith, shares .found .few, length-map l groupOf)) (omega arith) (c .before .before .put-shares .ensures .1) in
+    let four = words-next three (shareGroups (now (after2 .result))) (groups-few (now (after2 .result)) (shares .found)) (omega arith) (c .before .before .put-shares .ensures .1) in
     let suites-are = ap wordsIn (part .ensures) in
     let shares-are = ap (map groupOf) (shares .is) in
     record {

@@ -2,14 +2,12 @@
 use denote.Ref.{now}
 use Prim.Native.Nat.{_+_}
 use mathlib.Core.Path.{_≡_, ap, _∙_}
-use mathlib.Core.List.{map}
-use lib.ListN.{length, length-map}
+use lib.ListN.{length}
 use Rattle.wire.proofs.Writing.{filled, joined, put-as}
-use Rattle.fingerprint_bodies.specs.Entries.{orEmpty, allEntries}
 use Rattle.fingerprint_bodies.specs.Body as value
-use Rattle.fingerprint_bodies.specs.Forms.{wordsIn, oneName}
-use Rattle.fingerprint_lists.specs.Arrays.{spanOf, placed}
-use Rattle.fingerprint_lists.proofs.ReadLaws.{length-placed}
+use Rattle.fingerprint_bodies.specs.Forms.{wordsIn}
+use Rattle.fingerprint_lists.specs.Arrays.{placed}
+use Rattle.fingerprint_lists.proofs.WalkLaws.{nameSpans, spans-few}
 use Rattle.fingerprint.specs.Code.{noteOf}
 use Rattle.fingerprint_layout.specs.Layout.{littles}
 use Rattle.fingerprint_layout.proofs.PieceLaws.{length-littles}
@@ -68,12 +66,7 @@ sub-put-ids c =
     omega (arith, c .before .before .put-names .kept, put-list2 .kept, put-list .kept, clear .kept, pre .0)
 
 part-put-ids-start : tie.Need-part-put-ids-start
-part-put-ids-start c =
-    let pre = c .before .before .before .before .before .before .before .before .before .before .before .before .before .before .before .before .before .before .before .before .before .before .before .before .before .before .before .before .before .pre in
-    let clear = c .before .before .before .before .before .before .before .before .before .before .before .before .before .before .before .before .before .before .before .before .before .before .before .before .clear in
-    let put-list = c .before .before .before .before .before .before .before .before .before .before .before .before .before .before .before .before .before .put-list in
-    let put-list2 = c .before .before .before .before .before .before .before .before .before .before .put-list2 in
-    omega (arith, c .before .before .put-names .kept, put-list2 .kept, put-list .kept, clear .kept, pre .0)
+part-put-ids-start c = sub-put-ids c
 
 put-ids-requires : tie.Need-put-ids-requires
 put-ids-requires c κs =
@@ -111,11 +104,9 @@ returns c =
     let versions = versions-held (pre .1) (part2 .ensures) (after2 .ensures) in
     let protocols = protocols-held (pre .1) (part3 .ensures) (after3 .ensures) in
     let start = noteOf (args .found) value.protocols .start + 2 in
-    let l = orEmpty (allEntries oneName (now (after3 .result))) in
-    let few = length-map (placed start l) spanOf ∙ length-placed start l in
     let one = words-first (wordsIn (now (after .result))) (now (args .out)) (few-words (now (after .result)) (algorithms .few)) (omega arith) (clear .ensures) (put-list .ensures .1) in
     let two = words-next one (wordsIn (now (after2 .result))) (few-words (now (after2 .result)) (versions .few)) (omega arith) (put-list2 .ensures .1) in
-    let three = ranges-next two (map spanOf (placed start l)) (omega (arith, protocols .found .few, few)) (omega arith) (put-names .ensures .1) in
+    let three = ranges-next two (nameSpans start (now (after3 .result))) (spans-few start (now (after3 .result)) (protocols .found)) (omega arith) (put-names .ensures .1) in
     let protocols-are = ap (placed start) (protocols .is) in
     let ids-long : length (littles 8 (now (args .ids))) ≡ 512 = omega (arith, length-littles 8 (now (args .ids)), pre .2) in
     record {

@@ -1,13 +1,13 @@
-use mathlib.Core.Path.{_≡_, refl, sym, ap, _∙_}
-use Prim.Native.Nat.{ℕ, _+_, _-_, _*_, _/_, _≤_, zero-le}
-use mathlib.Core.List.{List, _∷_, map}
-use lib.ListN.{length, take, drop, length-map}
-use Rattle.wire.specs.Numbers.{number}
-use Rattle.wire.proofs.ListLaws.{part-to-end, length-part-to-end}
+-- The loop keeps `Filled`: the groups before place i stand in the array. Assumes nothing.
+use mathlib.Core.Path.{refl, sym, ap, _∙_}
+use Prim.Native.Nat.{_-_, _*_, _/_, _≤_, zero-le}
+use mathlib.Core.List.{map}
+use lib.ListN.{length, drop, length-map}
+use Rattle.wire.proofs.ListLaws.{length-part-to-end}
 use Rattle.fingerprint_bodies.specs.Forms.{wordsIn}
 use Rattle.fingerprint_lists.specs.Arrays.{group}
 use Rattle.fingerprint_lists.proofs.GoodLaws.{length-wordsIn}
-use Rattle.fingerprint_lists.proofs.FillLaws.{Filled, filled-start, filled-next, filled-end, filled-as}
+use Rattle.fingerprint_lists.proofs.FillLaws.{Filled, filled-start, filled-next, filled-end}
 use Rattle.fingerprint_lists.proofs.ReadLaws.{words-next, words-end, groups-same}
 use borrow.Author.Needs.{needs}
 use native.Mathlib.Omega.{arith}
@@ -21,7 +21,7 @@ abbrev μ-loop : tie.MeasureT-loop
 μ-loop list n items₀ i₀ items i = n - i
 
 loop-holds : tie.Need-loop-holds Inv-loop μ-loop
-loop-holds c = (zero-le, filled-start 64 (group 0) (map group (wordsIn (c .before .args .list .now))) (map group (wordsIn (c .before .args .list .now))) refl)
+loop-holds c = (zero-le, filled-start 64 (group 0) refl)
 
 be16-requires : tie.Need-be16-requires Inv-loop μ-loop
 be16-requires c κs = omega (arith, length-part-to-end (c .before .before .before .before .args .list .now) (2 * (c .before .before .loop .i)), c .before .loop-test .taken)
@@ -30,21 +30,16 @@ loop-again : tie.Need-loop-again Inv-loop μ-loop
 loop-again c =
     let l = c .before .before .before .loop in
     let s = c .before .before .before .before .before .args .list .now in
-    let p = map group (wordsIn s) in
-    let r = map group (wordsIn (drop (2 * (l .i + 1)) s)) in
-    let word : number 256 (take 2 (drop (2 * l .i) s)) ≡ (c .be16 .result) = sym (rw (part-to-end s (2 * l .i)) at (c .be16 .ensures)) in
-    let v : map group (wordsIn (drop (2 * l .i) s)) ≡ group (c .be16 .result) ∷ r =
-    ap (λ (x : List ℕ). map group x) (words-next s (l .i) (c .before .before .loop-test .taken)) ∙ ap (λ (x : ℕ). group x ∷ r) word in
-    let few : length p ≤ 64 = omega (arith, length-wordsIn s, length-map (wordsIn s) group, c .before .before .before .before .before .pre) in
-    (omega arith, filled-next 64 (group 0) p (l .i) (l .items) few (group (c .be16 .result)) r (filled-as v (l .inv .1)))
+    let next = words-next s (l .i) (c .before .before .loop-test .taken) (c .be16 .ensures) in
+    let few : length (map group (wordsIn s)) ≤ 64 = omega (arith, length-wordsIn s, length-map (wordsIn s) group, c .before .before .before .before .before .pre) in
+    (omega arith, filled-next (l .inv .1) (ap (map group) next) few)
 
 returns : tie.Need-returns Inv-loop μ-loop
 returns c =
     let l = c .before .loop in
     let s = c .before .before .before .args .list .now in
-    let p = map group (wordsIn s) in
-    let f = filled-as (ap (λ (x : List ℕ). map group x) (words-end s (l .i) (c .loop-test .left))) (l .inv .1) in
-    groups-same (wordsIn s) (l .items) (length s / 2) (filled-end 64 (group 0) p (l .i) (l .items) f) (sym (length-map (wordsIn s) group ∙ length-wordsIn s))
+    let all = filled-end (l .inv .1) (ap (map group) (words-end s (l .i) (c .loop-test .left))) in
+    groups-same (wordsIn s) (l .items) (length s / 2) all (sym (length-map (wordsIn s) group ∙ length-wordsIn s))
 
 pub groups-in-spec : {M : Type 1} → statement M
 groups-in-spec =

@@ -1,80 +1,47 @@
-use mathlib.Core.Path.{_≡_, refl, ap, subst}
-use Prim.Native.Nat.{ℕ, _+_, _-_, _≤_, _<_}
-use mathlib.Core.List.{List, _∷_, map}
-use mathlib.Core.Option.{none}
-use lib.ListN.{length, drop, length-drop, length-map}
-use Rattle.wire.proofs.ListLaws.{part-to-end}
-use Rattle.fingerprint_bodies.specs.Entries.{orEmpty, allEntries}
-use Rattle.fingerprint_bodies.specs.Body as value
-use Rattle.fingerprint_bodies.specs.Forms.{oneShare, groupOf}
-use Rattle.fingerprint_bodies.specs.Code.{ShareAs, ShareFound}
-use Rattle.fingerprint_bodies.specs.declared.Share.{Share}
-use Rattle.profiles.specs.declared.Group.{Group}
+-- The loop keeps `SharesWalked`, and `Filled`: the groups of the shares that were read stand in the array. Assumes nothing.
+use Prim.Native.Nat.{_+_, _-_, _≤_, _<_}
+use mathlib.Core.Path.{ap}
+use mathlib.Core.List.{map}
+use lib.ListN.{length, length-map}
 use Rattle.fingerprint_lists.specs.Arrays.{group}
-use Rattle.fingerprint_lists.proofs.ReadLaws.{Read, read-start, read-room, read-next, read-cut, read-items, read-count, groups-same}
+use Rattle.fingerprint_lists.proofs.FillLaws.{Filled, filled-start, filled-room, filled-next, filled-end, filled-count}
+use Rattle.fingerprint_lists.proofs.WalkLaws.{shareGroups, SharesWalked, groupsLeft, ShareTurn, shares-start, groups-few, groups-start, groups-end, share-turn, share-cut}
+use Rattle.fingerprint_lists.proofs.ReadLaws.{groups-same}
 use borrow.Author.Needs.{needs}
 use native.Mathlib.Omega.{arith}
 use Rattle.fingerprint_lists.proofs.shares.Statement.{statement}
 use Rattle.fingerprint_lists.proofs.shares.Tie as tie
 
--- what shares put into the array
-abbrev shown : ℕ → List value.Share → List Group
-shown at l = map group (map groupOf l)
-
 abbrev Inv-loop : tie.InvT-loop
-Inv-loop list n items₀ at₀ k₀ items at k = Read oneShare list 64 (group 0) shown k at items
+Inv-loop list n items₀ at₀ k₀ items at k =
+    SharesWalked list k at × Filled 64 (group 0) (map group (shareGroups list)) k items (map group (groupsLeft list k at))
 
 abbrev μ-loop : tie.MeasureT-loop
 μ-loop list n items₀ at₀ k₀ items at k = length list - at
 
-answer : (c : tie.After-one-share Inv-loop μ-loop) → ShareAs (c .one-share .result) (drop (c .before .before .before .loop .at) (c .before .before .before .before .before .args .list .now))
-answer c = rw (part-to-end (c .before .before .before .before .before .args .list .now) (c .before .before .before .loop .at)) at (c .one-share .ensures)
+turn : (c : tie.After-known-told Inv-loop μ-loop) →
+    let loop = c .before .before .before .before .before .before .loop in
+    let given = c .before .group .given .0 in
+    ShareTurn (c .before .before .before .before .before .before .before .before .args .list .now) (loop .k) (loop .at) (loop .at + given .1 .0) (given .0)
+turn c =
+    let loop = c .before .before .before .before .before .before .loop in
+    let one-share = c .before .before .before .one-share in
+    share-turn (loop .inv .0) (c .before .before .before .before .before .loop-test .taken) (one-share .result) (one-share .ensures) (c .before .group .given .1)
 
--- the bytes, the place in them, and what the entry there holds
-abbrev bytes : (c : tie.After-known-told Inv-loop μ-loop) → List ℕ
-bytes c = c .before .before .before .before .before .before .before .before .args .list .now
-
-abbrev place : (c : tie.After-known-told Inv-loop μ-loop) → ℕ
-place c = c .before .before .before .before .before .before .loop .at
-
-abbrev number : (c : tie.After-known-told Inv-loop μ-loop) → ℕ
-number c = c .before .group .given .0 .0
-
-abbrev used : (c : tie.After-known-told Inv-loop μ-loop) → ℕ
-used c = c .before .group .given .0 .1 .0
-
-found : (c : tie.After-known-told Inv-loop μ-loop) → ShareFound (drop (place c) (bytes c)) (number c) (used c)
-found c = subst (λ (x : Share). ShareAs x (drop (place c) (bytes c))) (c .before .group .given .1) (answer (c .before .before .before))
-
-puts : (c : tie.After-known-told Inv-loop μ-loop) (l : List value.Share)
-    → shown (place c) (found c .found ∷ l) ≡ group (number c) ∷ shown (place c + used c) l
-puts c l = ap (λ (g : ℕ). group g ∷ map group (map groupOf l)) (found c .group-is)
-
-few : (c : tie.After-known-told Inv-loop μ-loop) → length (shown 0 (orEmpty (allEntries oneShare (bytes c)))) ≤ 64
+few : (c : tie.After-known-told Inv-loop μ-loop) →
+    length (map group (shareGroups (c .before .before .before .before .before .before .before .before .args .list .now))) ≤ 64
 few c =
-    let l = orEmpty (allEntries oneShare (bytes c)) in
-    omega (arith, c .before .before .before .before .before .before .before .before .pre .few, length-map (map groupOf l) group, length-map l groupOf)
+    let start = c .before .before .before .before .before .before .before .before in
+    let list = start .args .list .now in
+    omega (arith, groups-few list (start .pre), length-map (shareGroups list) group)
 
-room : (c : tie.After-known-told Inv-loop μ-loop) → (c .before .before .before .before .before .before .loop .k) < 64
-room c =
-    let l = c .before .before .before .before .before .before .loop in
-    read-room oneShare (bytes c) 64 (group 0) shown (l .k) (l .at) (l .items) (l .inv) (c .before .before .before .before .before .loop-test .taken) (used c)
-    (found c .found) (found c .is) (group (number c)) (puts c) (few c)
+room : (c : tie.After-known-told Inv-loop μ-loop) → c .before .before .before .before .before .before .loop .k < 64
+room c = filled-room (c .before .before .before .before .before .before .loop .inv .1) (ap (map group) (turn c .first)) (few c)
 
 loop-holds : tie.Need-loop-holds Inv-loop μ-loop
-loop-holds c = read-start oneShare (c .before .args .list .now) 64 (group 0) shown (c .before .pre .there)
-
-sub-one-share : tie.Need-sub-one-share Inv-loop μ-loop
-sub-one-share c = omega (arith, c .loop-test .taken)
-
-part-one-share-start : tie.Need-part-one-share-start Inv-loop μ-loop
-part-one-share-start c = omega (arith, c .loop-test .taken)
-
-part-one-share-end : tie.Need-part-one-share-end Inv-loop μ-loop
-part-one-share-end c = omega (arith, c .loop-test .taken)
-
-enum-told : tie.Need-enum-told Inv-loop μ-loop
-enum-told c = search needs
+loop-holds c =
+    let list = c .before .args .list .now in
+    (shares-start list (c .before .pre), filled-start 64 (group 0) (ap (map group) (groups-start list)))
 
 mul-items : tie.Need-mul-items Inv-loop μ-loop
 mul-items c = omega (arith, room c)
@@ -83,34 +50,29 @@ array-set-from-items : tie.Need-array-set-from-items Inv-loop μ-loop
 array-set-from-items c = omega (arith, room c)
 
 add-at : tie.Need-add-at Inv-loop μ-loop
-add-at c = omega (arith, found c .within, length-drop (place c) (bytes c))
+add-at c = omega (arith, turn c .within)
 
 add-k : tie.Need-add-k Inv-loop μ-loop
 add-k c = omega (arith, room c)
 
 loop-less : tie.Need-loop-less Inv-loop μ-loop
-loop-less c = omega (arith, found c .some, found c .within, length-drop (place c) (bytes c))
+loop-less c = omega (arith, turn c .forward, turn c .within)
 
 loop-again : tie.Need-loop-again Inv-loop μ-loop
-loop-again c =
-    let l = c .before .before .before .before .before .before .loop in
-    read-next oneShare (bytes c) 64 (group 0) shown (l .k) (l .at) (l .items) (l .inv) (c .before .before .before .before .before .loop-test .taken) (used c)
-    (found c .found) (found c .is) (group (number c)) (puts c) (few c) (found c .some) (found c .within)
+loop-again c = (turn c .next, filled-next (c .before .before .before .before .before .before .loop .inv .1) (ap (map group) (turn c .first)) (few c))
 
 returns : tie.Need-returns Inv-loop μ-loop
 returns c =
     let l = c .before .loop in
     let s = c .before .before .before .args .list .now in
-    groups-same (map groupOf (orEmpty (allEntries oneShare s))) (l .items) (l .k)
-    (read-items oneShare s 64 (group 0) shown (l .k) (l .at) (l .items) (l .inv) (c .loop-test .left) refl)
-    (read-count oneShare s 64 (group 0) shown (l .k) (l .at) (l .items) (l .inv) (c .loop-test .left) refl)
+    let none-left = ap (map group) (groups-end s (l .k) (l .at) (c .loop-test .left)) in
+    groups-same (shareGroups s) (l .items) (l .k) (filled-end (l .inv .1) none-left) (filled-count (l .inv .1) none-left)
 
 returns-2 : tie.Need-returns-2 Inv-loop μ-loop
 returns-2 c =
-    let l = c .before .before .before .before .before .loop in
-    let s = c .before .before .before .before .before .before .before .args .list .now in
-    let cut : oneShare (drop (l .at) s) ≡ none = subst (λ (x : Share). ShareAs x (drop (l .at) s)) (c .enum-told .given .1) (answer (c .before .before)) in
-    absurd (read-cut oneShare s 64 (group 0) shown (l .k) (l .at) (l .items) (l .inv) (c .before .before .before .before .loop-test .taken) cut)
+    let loop = c .before .before .before .before .before .loop in
+    let one-share = c .before .before .one-share in
+    absurd (share-cut (loop .inv .0) (c .before .before .before .before .loop-test .taken) (one-share .result) (one-share .ensures) (c .enum-told .given .1))
 
 pub shares-spec : {M : Type 1} → statement M
 shares-spec =
@@ -119,12 +81,12 @@ shares-spec =
     Inv-loop
     μ-loop
     loop-holds
-    sub-one-share
-    part-one-share-start
-    part-one-share-end
+    (λ c. omega arith)  -- sub-one-share
+    (λ c. omega arith)  -- part-one-share-start
+    (λ c. omega arith)  -- part-one-share-end
     (λ c κs. search needs)  -- one-share-requires
     (λ c. search needs)  -- enum-known-group
-    enum-told
+    (λ c. search needs)  -- enum-told
     mul-items
     array-set-from-items
     add-at

@@ -1,13 +1,11 @@
 -- `ext_types` fills the array with one type after the other. Assumes nothing.
 use mathlib.Core.Path.{_≡_, refl, ap, _∙_}
-use Prim.Native.Nat.{_+_, _-_}
-use mathlib.Core.List.{List, _∷_, map, append-nil}
-use lib.ListN.{length, drop, getD, length-map, drop-of-length-le}
-use lib.Seq.{drop-cons}
-use native.Mathlib.Numerals.{add-one}
+use Prim.Native.Nat.{_-_}
+use mathlib.Core.List.{List, map, append-nil}
+use lib.ListN.{length, drop, length-map, drop-of-length-le}
 use Rattle.profiles.specs.declared.ExtType.{ExtType}
 use Rattle.fingerprint_lists.specs.Arrays.{extType, padded}
-use Rattle.fingerprint_lists.proofs.FillLaws.{Filled, filled-start, filled-next, filled-end, filled-as}
+use Rattle.fingerprint_lists.proofs.FillLaws.{Filled, filled-start, filled-next, filled-end, items-next}
 use borrow.Author.Needs.{needs}
 use native.Mathlib.Omega.{arith}
 use Rattle.fingerprint.proofs.report.ext_types.Statement.{statement}
@@ -28,24 +26,23 @@ filled-all l e =
     rw none (append-nil l)
 
 loop-holds : tie.Need-loop-holds Inv-loop μ-loop
-loop-holds c = filled-start 64 (extType 0) (map extType (c .args .numbers .now)) (map extType (c .args .numbers .now)) refl
+loop-holds c = filled-start 64 (extType 0) refl
 
 loop-again : tie.Need-loop-again Inv-loop μ-loop
 loop-again c =
     let l = c .before .before .loop in
     let s = c .before .before .before .args .numbers .now in
     let long : length s ≡ 64 = c .before .before .before .pre in
-    let r = map extType (drop (l .i + 1) s) in
-    let next : drop (l .i) s ≡ getD s (l .i) 0 ∷ drop (l .i + 1) s = rw (add-one (l .i)) (drop-cons s (l .i) 0 (omega (arith, c .before .loop-test .taken))) in
-    filled-next 64 (extType 0) (map extType s) (l .i) (l .types) (omega (arith, length-map s extType, long)) (extType (getD s (l .i) 0)) r (filled-as (ap (map extType) next) (l .inv))
+    let next = items-next s (l .i) 0 (omega (arith, c .before .loop-test .taken)) in
+    filled-next (l .inv) (ap (map extType) next) (omega (arith, length-map s extType, long))
 
 returns : tie.Need-returns Inv-loop μ-loop
 returns c =
     let l = c .before .loop in
     let s = c .before .before .args .numbers .now in
     let long : length s ≡ 64 = c .before .before .pre in
-    let f = filled-as (ap (map extType) (drop-of-length-le s {i = l .i} (omega (arith, c .loop-test .left, long)))) (l .inv) in
-    filled-end 64 (extType 0) (map extType s) (l .i) (l .types) f ∙ filled-all (map extType s) (length-map s extType ∙ long)
+    let none-left = drop-of-length-le s {i = l .i} (omega (arith, c .loop-test .left, long)) in
+    filled-end (l .inv) (ap (map extType) none-left) ∙ filled-all (map extType s) (length-map s extType ∙ long)
 
 pub ext-types-spec : {M : Type 1} → statement M
 ext-types-spec =

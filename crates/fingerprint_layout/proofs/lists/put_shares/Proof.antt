@@ -1,19 +1,9 @@
--- The loop keeps `Copied`: the groups of the shares that were read stand in the output. Assumes nothing.
-use Prim.Native.Nat.{ℕ, _+_, _-_, _*_, _≤_}
-use mathlib.Core.Path.{_≡_, refl, ap, subst}
-use mathlib.Core.List.{List, _∷_, map}
-use mathlib.Core.Option.{none}
-use lib.ListN.{length, drop, length-drop, length-map}
-use Rattle.wire.proofs.ListLaws.{part-to-end, length-part-to-end}
-use Rattle.wire.proofs.Writing.{place-within, same-length as kept}
-use Rattle.fingerprint_bodies.specs.Entries.{orEmpty, allEntries}
-use Rattle.fingerprint_bodies.specs.Body as value
-use Rattle.fingerprint_bodies.specs.Forms.{oneShare, groupOf}
-use Rattle.fingerprint_bodies.specs.Code.{ShareAs, ShareFound}
-use Rattle.fingerprint_bodies.specs.declared.Share.{Share}
+-- The loop keeps `SharesWalked`, and `Standing`: the groups of the shares that were read stand in the output. Assumes nothing.
+use Prim.Native.Nat.{_+_, _-_, _*_, _≤_}
+use lib.ListN.{length}
+use Rattle.fingerprint_lists.proofs.WalkLaws.{shareGroups, SharesWalked, groupsLeft, ShareTurn, shares-start, groups-few, groups-start, groups-end, share-turn, share-cut}
 use Rattle.fingerprint_layout.specs.Layout.{little}
-use Rattle.fingerprint_layout.proofs.PieceLaws.{length-little, numbers-are}
-use Rattle.fingerprint_layout.proofs.EntryLaws.{shareNumbers, Copied, copy-start, copy-room, copy-next, copy-cut, copy-output, copy-count}
+use Rattle.fingerprint_layout.proofs.PieceLaws.{Standing, stand-start, stand-room, stand-fits, stand-next, stand-count, stand-end, numbers-are, length-little}
 use native.Mathlib.Omega.{arith}
 use borrow.Author.Needs.{needs}
 use Rattle.fingerprint_layout.proofs.lists.put_shares.Statement.{statement}
@@ -21,119 +11,66 @@ use Rattle.fingerprint_layout.proofs.lists.put_shares.Tie as tie
 
 abbrev Inv-loop : tie.InvT-loop
 Inv-loop out₀ list n at₀ k₀ out at k =
-    Copied oneShare list shareNumbers (little 2) 2 (length-little 2) out₀ out k at (2 * k)
+    SharesWalked list k at × Standing (little 2) 2 (shareGroups list) (groupsLeft list k at) out₀ out k (2 * k)
 
 abbrev μ-loop : tie.MeasureT-loop
 μ-loop out₀ list n at₀ k₀ out at k =
     length list - at
 
-answer : (c : tie.After-one-share Inv-loop μ-loop) → ShareAs (c .one-share .result) (drop (c .before .before .before .loop .at) (c .before .before .before .before .before .before .args .list .now))
-answer c =
-    let args = c .before .before .before .before .before .before .args in
-    rw (part-to-end (args .list .now) (c .before .before .before .loop .at)) at (c .one-share .ensures)
-
--- the bytes, the place in them, and what the entry there holds
-abbrev bytes : (c : tie.After-known-told Inv-loop μ-loop) → List ℕ
-bytes c = (c .before .before .before .before .before .before .before .before .before .args .list .now)
-
-abbrev place : (c : tie.After-known-told Inv-loop μ-loop) → ℕ
-place c = (c .before .before .before .before .before .before .loop .at)
-
-abbrev number : (c : tie.After-known-told Inv-loop μ-loop) → ℕ
-number c = (c .before .group .given .0 .0)
-
-abbrev used : (c : tie.After-known-told Inv-loop μ-loop) → ℕ
-used c = (c .before .group .given .0 .1 .0)
-
-found : (c : tie.After-known-told Inv-loop μ-loop) → ShareFound (drop (place c) (bytes c)) (number c) (used c)
-found c = subst (λ (x : Share). ShareAs x (drop (place c) (bytes c))) (c .before .group .given .1) (answer (c .before .before .before))
-
-puts : (c : tie.After-known-told Inv-loop μ-loop) (l : List value.Share) → shareNumbers (place c) (found c .found ∷ l) ≡ number c ∷ shareNumbers (place c + used c) l
-puts c l = ap (λ (g : ℕ). g ∷ map groupOf l) (found c .group-is)
-
-room : (c : tie.After-known-told Inv-loop μ-loop) → 2 * c .before .before .before .before .before .before .loop .k + 2 ≤ length (c .before .before .before .before .before .before .loop .out)
-room c =
+turn : (c : tie.After-known-told Inv-loop μ-loop) →
     let loop = c .before .before .before .before .before .before .loop in
-    let r = copy-room oneShare (bytes c) shareNumbers (little 2) 2 (length-little 2) (loop .inv) (c .before .before .before .before .before .loop-test .taken) (used c) (found c .found) (found c .is) (number c) (puts c) in
-    omega (arith, length-part-to-end (loop .out) (2 * loop .k))
+    let given = c .before .group .given .0 in
+    ShareTurn (c .before .before .before .before .before .before .before .before .before .args .list .now) (loop .k) (loop .at) (loop .at + given .1 .0) (given .0)
+turn c =
+    let loop = c .before .before .before .before .before .before .loop in
+    let one-share = c .before .before .before .one-share in
+    share-turn (loop .inv .0) (c .before .before .before .before .before .loop-test .taken) (one-share .result) (one-share .ensures) (c .before .group .given .1)
+
+fits : (c : tie.After-known-told Inv-loop μ-loop) →
+    let loop = c .before .before .before .before .before .before .loop in
+    2 * loop .k + 2 ≤ length (loop .out)
+fits c = stand-fits (c .before .before .before .before .before .before .loop .inv .1) (turn c .first)
 
 loop-holds : tie.Need-loop-holds Inv-loop μ-loop
 loop-holds c =
-    let args = c .before .before .args in
+    let list = c .before .before .args .list .now in
     let pre = c .before .before .pre in
-    let l = orEmpty (allEntries oneShare (args .list .now)) in
-    copy-start oneShare (args .list .now) shareNumbers (little 2) 2 (length-little 2) (args .out .now) (pre .0 .there) (omega (arith, pre .0 .few, pre .1, length-map l groupOf))
-
-sub-one-share : tie.Need-sub-one-share Inv-loop μ-loop
-sub-one-share c = omega (arith, c .loop-test .taken)
-
-part-one-share-start : tie.Need-part-one-share-start Inv-loop μ-loop
-part-one-share-start c = omega (arith, c .loop-test .taken)
-
-part-one-share-end : tie.Need-part-one-share-end Inv-loop μ-loop
-part-one-share-end c = omega (arith, c .loop-test .taken)
-
-enum-told : tie.Need-enum-told Inv-loop μ-loop
-enum-told c = search needs
+    (shares-start list (pre .0), stand-start (length-little 2) (groups-start list) (omega (arith, groups-few list (pre .0), pre .1)))
 
 mul-put-word : tie.Need-mul-put-word Inv-loop μ-loop
-mul-put-word c = omega (arith, room c)
-
-sub-put-word : tie.Need-sub-put-word Inv-loop μ-loop
-sub-put-word c = place-within (c .before .before .before .before .before .before .loop .inv .written)
-
-part-put-word-start : tie.Need-part-put-word-start Inv-loop μ-loop
-part-put-word-start c = place-within (c .before .before .before .before .before .before .loop .inv .written)
+mul-put-word c = omega (arith, fits c)
 
 put-word-requires : tie.Need-put-word-requires Inv-loop μ-loop
-put-word-requires c κs =
-    let loop = c .before .before .before .before .before .before .before .loop in
-    let loop-test = c .before .before .before .before .before .before .loop-test in
-    let told = c .before in
-    copy-room oneShare (bytes told) shareNumbers (little 2) 2 (length-little 2) (loop .inv) (loop-test .taken) (used told) (found told .found) (found told .is) (number told) (puts told)
+put-word-requires c κs = stand-room (c .before .before .before .before .before .before .before .loop .inv .1) (turn (c .before) .first)
 
 add-at : tie.Need-add-at Inv-loop μ-loop
-add-at c =
-    let told = c .before .before .before .before in
-    omega (arith, found told .within, length-drop (place told) (bytes told))
+add-at c = omega (arith, turn (c .before .before .before .before) .within)
 
 add-k : tie.Need-add-k Inv-loop μ-loop
-add-k c = omega (arith, room (c .before .before .before .before))
+add-k c = omega (arith, fits (c .before .before .before .before))
 
 loop-less : tie.Need-loop-less Inv-loop μ-loop
 loop-less c =
-    let told = c .before .before .before .before in
-    omega (arith, found told .some, found told .within, length-drop (place told) (bytes told))
+    let t = turn (c .before .before .before .before) in
+    omega (arith, t .forward, t .within)
 
 loop-again : tie.Need-loop-again Inv-loop μ-loop
 loop-again c =
-    let loop = c .before .before .before .before .before .before .before .before .before .before .loop in
-    let loop-test = c .before .before .before .before .before .before .before .before .before .loop-test in
-    let told = c .before .before .before .before in
-    let f = found told in
-    let e : 2 * loop .k + 2 ≡ 2 * (loop .k + 1) = omega arith in
-    rw e at (copy-next oneShare (bytes told) shareNumbers (little 2) 2 (length-little 2) (loop .inv) (loop-test .taken) (used told) (f .found) (f .is) (number told) (puts told) (f .some) (f .within) (c .before .before .put-word .ensures))
-
-same-length : tie.Need-same-length Inv-loop μ-loop
-same-length c = kept (c .before .loop .inv .written)
+    let t = turn (c .before .before .before .before) in
+    (t .next, stand-next (c .before .before .before .before .before .before .before .before .before .before .loop .inv .1) (t .first) (c .before .before .put-word .ensures) (omega arith))
 
 returns : tie.Need-returns Inv-loop μ-loop
 returns c =
-    let s = c .before .before .before .before .args .list .now in
-    let all = map groupOf (orEmpty (allEntries oneShare s)) in
-    (omega (arith, copy-count oneShare s shareNumbers (little 2) 2 (length-little 2) (c .before .loop .inv) (c .loop-test .left) refl), copy-output oneShare s shareNumbers (little 2) 2 (length-little 2) (c .before .loop .inv) (c .loop-test .left) refl (numbers-are 2 all))
-
-same-length-2 : tie.Need-same-length-2 Inv-loop μ-loop
-same-length-2 c = kept (c .before .before .before .before .before .loop .inv .written)
+    let loop = c .before .loop in
+    let list = c .before .before .before .before .args .list .now in
+    let none-left = groups-end list (loop .k) (loop .at) (c .loop-test .left) in
+    (stand-count (loop .inv .1) none-left, stand-end (loop .inv .1) none-left (numbers-are 2 (shareGroups list)))
 
 returns-2 : tie.Need-returns-2 Inv-loop μ-loop
 returns-2 c =
-    let args = c .before .before .before .before .before .before .before .before .args in
     let loop = c .before .before .before .before .before .loop in
-    let told = c .before .before in
-    let s = args .list .now in
-    let cut : oneShare (drop (loop .at) s) ≡ none = subst (λ (x : Share). ShareAs x (drop (loop .at) s)) (c .enum-told .given .1) (answer told) in
-    absurd (copy-cut oneShare s shareNumbers (little 2) 2 (length-little 2) (loop .inv) (c .before .before .before .before .loop-test .taken) cut)
+    let one-share = c .before .before .one-share in
+    absurd (share-cut (loop .inv .0) (c .before .before .before .before .loop-test .taken) (one-share .result) (one-share .ensures) (c .enum-told .given .1))
 
 pub put-shares-spec : {M : Type 1} → statement M
 put-shares-spec =
@@ -142,22 +79,22 @@ put-shares-spec =
     Inv-loop
     μ-loop
     loop-holds
-    sub-one-share
-    part-one-share-start
-    part-one-share-end
+    (λ c. omega arith)  -- sub-one-share
+    (λ c. omega arith)  -- part-one-share-start
+    (λ c. omega arith)  -- part-one-share-end
     (λ c κs. search needs)  -- one-share-requires
     (λ c. search needs)  -- enum-known-group
-    enum-told
+    (λ c. search needs)  -- enum-told
     mul-put-word
-    sub-put-word
-    part-put-word-start
+    (λ c. search needs)  -- sub-put-word
+    (λ c. search needs)  -- part-put-word-start
     (λ c. search needs)  -- part-put-word-end
     put-word-requires
     add-at
     add-k
     loop-less
     loop-again
-    same-length
+    (λ c. search needs)  -- same-length
     returns
-    same-length-2
+    (λ c. search needs)  -- same-length-2
     returns-2)

@@ -10,9 +10,6 @@ use borrow.Author.Needs.{needs}
 use Rattle.fingerprint_layout.proofs.numbers.put_counts.Statement.{statement}
 use Rattle.fingerprint_layout.proofs.numbers.put_counts.Tie as tie
 
-enum-told : tie.Need-enum-told
-enum-told c = search needs
-
 returns : tie.Need-returns
 unfolding nameNumbers
 returns c =
@@ -46,7 +43,7 @@ put-counts-spec =
     (λ c. search needs)  -- part-put-numbers-end
     (λ c. search needs)  -- slice-aggregate-put-numbers
     (λ c κs. search needs)  -- put-numbers-requires-2
-    enum-told
+    (λ c. search needs)  -- enum-told
     (λ c. search needs)  -- sub-put-numbers-2
     (λ c. search needs)  -- part-put-numbers-start-2
     (λ c. search needs)  -- part-put-numbers-end-2

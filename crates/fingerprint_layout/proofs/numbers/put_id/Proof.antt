@@ -7,30 +7,6 @@ use borrow.Author.Needs.{needs}
 use Rattle.fingerprint_layout.proofs.numbers.put_id.Statement.{statement}
 use Rattle.fingerprint_layout.proofs.numbers.put_id.Tie as tie
 
-slice-write-out-2 : tie.Need-slice-write-out-2
-slice-write-out-2 c = simp length-set (omega arith)
-
-slice-write-out-3 : tie.Need-slice-write-out-3
-slice-write-out-3 c = simp length-set (omega arith)
-
-slice-write-out-4 : tie.Need-slice-write-out-4
-slice-write-out-4 c = simp length-set (omega arith)
-
-slice-write-out-5 : tie.Need-slice-write-out-5
-slice-write-out-5 c = simp length-set (omega arith)
-
-slice-write-out-6 : tie.Need-slice-write-out-6
-slice-write-out-6 c = simp length-set (omega arith)
-
-slice-write-out-7 : tie.Need-slice-write-out-7
-slice-write-out-7 c = simp length-set (omega arith)
-
-slice-write-out-8 : tie.Need-slice-write-out-8
-slice-write-out-8 c = simp length-set (omega arith)
-
-same-length : tie.Need-same-length
-same-length c = simp length-set
-
 returns : tie.Need-returns
 unfolding little
 returns c = stores (little 8 (c .args .id)) _ (c .pre)
@@ -42,18 +18,18 @@ put-id-spec =
     (λ c. search needs)  -- cast-out
     (λ c. search needs)  -- slice-write-out
     (λ c. search needs)  -- cast-out-2
-    slice-write-out-2
+    (λ c. simp length-set (omega arith))  -- slice-write-out-2
     (λ c. search needs)  -- cast-out-3
-    slice-write-out-3
+    (λ c. simp length-set (omega arith))  -- slice-write-out-3
     (λ c. search needs)  -- cast-out-4
-    slice-write-out-4
+    (λ c. simp length-set (omega arith))  -- slice-write-out-4
     (λ c. search needs)  -- cast-out-5
-    slice-write-out-5
+    (λ c. simp length-set (omega arith))  -- slice-write-out-5
     (λ c. search needs)  -- cast-out-6
-    slice-write-out-6
+    (λ c. simp length-set (omega arith))  -- slice-write-out-6
     (λ c. search needs)  -- cast-out-7
-    slice-write-out-7
+    (λ c. simp length-set (omega arith))  -- slice-write-out-7
     (λ c. search needs)  -- cast-out-8
-    slice-write-out-8
-    same-length
+    (λ c. simp length-set (omega arith))  -- slice-write-out-8
+    (λ c. simp length-set)  -- same-length
     returns)

@@ -1,57 +1,42 @@
 -- The loop keeps `Standing`: the numbers before place i stand in the output. Assumes nothing.
-use Prim.Native.Nat.{_-_, _*_, _≤_, _<_}
-use mathlib.Core.Path.{_≡_}
+use Prim.Native.Nat.{_-_, _≤_}
+use mathlib.Core.Path.{refl}
 use native.Mathlib.Omega.{arith}
 use denote.Ref.{now}
-use lib.ListN.{length}
-use Rattle.wire.proofs.Writing.{place-within, same-length as kept}
+use lib.ListN.{drop, drop-of-length-le}
+use Rattle.fingerprint_lists.proofs.FillLaws.{items-next}
 use Rattle.fingerprint_layout.specs.Layout.{little}
-use Rattle.fingerprint_layout.proofs.PieceLaws.{Standing, none-standing, item-room, item-written, all-written, numbers-are, length-little}
+use Rattle.fingerprint_layout.proofs.PieceLaws.{Standing, stand-start, stand-room, stand-next, stand-end, numbers-are, length-little}
 use borrow.Author.Needs.{needs}
 use Rattle.fingerprint_layout.proofs.numbers.put_numbers.Statement.{statement}
 use Rattle.fingerprint_layout.proofs.numbers.put_numbers.Tie as tie
 
 abbrev Inv-loop : tie.InvT-loop
-Inv-loop out₀ items n at₀ i₀ out at i = (i ≤ n) × (at ≡ 2 * i) × Standing (little 2) items i out₀ out at
+Inv-loop out₀ items n at₀ i₀ out at i = (i ≤ n) × Standing (little 2) 2 items (drop i items) out₀ out i at
 
 abbrev μ-loop : tie.MeasureT-loop
 μ-loop out₀ items n at₀ i₀ out at i = n - i
 
 loop-holds : tie.Need-loop-holds Inv-loop μ-loop
-loop-holds c = (omega arith, omega arith, none-standing (little 2) 2 (length-little 2) (now (c .before .before .args .items)) (c .before .before .pre))
-
-sub-put-count : tie.Need-sub-put-count Inv-loop μ-loop
-sub-put-count c = place-within (c .before .loop .inv .2)
-
-part-put-count-start : tie.Need-part-put-count-start Inv-loop μ-loop
-part-put-count-start c = place-within (c .before .loop .inv .2)
+loop-holds c = (omega arith, stand-start (length-little 2) refl (omega arith))
 
 put-count-requires : tie.Need-put-count-requires Inv-loop μ-loop
 put-count-requires c κs =
     let loop = c .before .before .before .loop in
     let items = now (c .before .before .before .before .before .before .args .items) in
-    let within : loop .i < length items = c .before .before .loop-test .taken in
-    item-room (little 2) 2 (length-little 2) items 0 (loop .i) within (loop .inv .2)
-
-add-at : tie.Need-add-at Inv-loop μ-loop
-add-at c = omega (arith, c .before .before .before .before .before .before .loop .inv .1)
+    stand-room (loop .inv .1) (items-next items (loop .i) 0 (omega arith))
 
 loop-again : tie.Need-loop-again Inv-loop μ-loop
 loop-again c =
     let loop = c .before .before .before .before .before .before .loop in
     let items = now (c .before .before .before .before .before .before .before .before .before .args .items) in
-    let within : loop .i < length items = c .before .before .before .before .before .loop-test .taken in
-    let written = item-written (little 2) 2 (length-little 2) items 0 (loop .i) within (loop .inv .2) (c .before .before .put-count .ensures) in
-    (omega arith, omega (arith, loop .inv .1), written)
-
-same-length : tie.Need-same-length Inv-loop μ-loop
-same-length c = kept (c .before .loop .inv .2)
+    (omega arith, stand-next (loop .inv .1) (items-next items (loop .i) 0 (omega arith)) (c .before .before .put-count .ensures) refl)
 
 returns : tie.Need-returns Inv-loop μ-loop
 returns c =
+    let loop = c .before .loop in
     let items = now (c .before .before .before .before .args .items) in
-    let all : c .before .loop .i ≡ length items = omega arith in
-    all-written (little 2) items (numbers-are 2 items) all (c .before .loop .inv .2)
+    stand-end (loop .inv .1) (drop-of-length-le items {i = loop .i} (omega arith)) (numbers-are 2 items)
 
 pub put-numbers-spec : {M : Type 1} → statement M
 put-numbers-spec =
@@ -60,15 +45,15 @@ put-numbers-spec =
     Inv-loop
     μ-loop
     loop-holds
-    sub-put-count
-    part-put-count-start
+    (λ c. search needs)  -- sub-put-count
+    (λ c. search needs)  -- part-put-count-start
     (λ c. search needs)  -- part-put-count-end
     (λ c. search needs)  -- mul-put-count
     (λ c. search needs)  -- shared-slice-read-put-count
     put-count-requires
-    add-at
+    (λ c. omega arith)  -- add-at
     (λ c. omega arith)  -- add-i
     (λ c. omega arith)  -- loop-less
     loop-again
-    same-length
+    (λ c. search needs)  -- same-length
     returns)

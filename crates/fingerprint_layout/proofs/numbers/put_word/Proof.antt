@@ -5,25 +5,17 @@ use borrow.Author.Needs.{needs}
 use Rattle.fingerprint_layout.proofs.numbers.put_word.Statement.{statement}
 use Rattle.fingerprint_layout.proofs.numbers.put_word.Tie as tie
 
-cast-out : tie.Need-cast-out
-cast-out c = search needs
-
-slice-write-out : tie.Need-slice-write-out
-slice-write-out c = search needs
-
-cast-out-2 : tie.Need-cast-out-2
-cast-out-2 c = search needs
-
-slice-write-out-2 : tie.Need-slice-write-out-2
-slice-write-out-2 c = search needs
-
-same-length : tie.Need-same-length
-same-length c = search needs
-
 returns : tie.Need-returns
 unfolding little
 returns c = stores (little 2 (c .args .v)) _ (c .pre)
 
 pub put-word-spec : {M : Type 1} → statement M
 put-word-spec =
-    tie.close (tie.spec cast-out slice-write-out cast-out-2 slice-write-out-2 same-length returns)
+    tie.close
+    (tie.spec
+    (λ c. search needs)  -- cast-out
+    (λ c. search needs)  -- slice-write-out
+    (λ c. search needs)  -- cast-out-2
+    (λ c. search needs)  -- slice-write-out-2
+    (λ c. search needs)  -- same-length
+    returns)
