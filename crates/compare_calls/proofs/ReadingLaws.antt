@@ -32,7 +32,7 @@ saidNumber (said.Handed n k) = 0
 saidNumber (said.Refused n k) = k
 saidNumber (said.Error f) = 0
 
-module _ (r : Said) (old new : List ℕ) where
+module _ {r : Said} {old new : List ℕ} where
   pub report-coded : (a : Answer ClientHello) → Says (plainly a) (reportAnswer a) r old new → ReportCoded a old (codedSaid r) new
   report-coded (result v) s = record { is = ap codedSaid (s .is); output = s .output }
   report-coded (refused k) s = record { is = ap codedSaid (s .is); output = s .output }
@@ -41,8 +41,8 @@ module _ (r : Said) (old new : List ℕ) where
   report-number (result v) f s = rw (s .is) (omega arith)
   report-number (refused k) f s = rw (s .is) (f .1)
 
-  pub text-coded : (parts : List (List ℕ)) → Says plain parts r old new → TextCoded parts old (saidCount r) new
-  text-coded parts s = record { is = ap saidCount (s .is); output = s .output }
+  pub text-coded : {parts : List (List ℕ)} → Says plain parts r old new → TextCoded parts old (saidCount r) new
+  text-coded s = record { is = ap saidCount (s .is); output = s .output }
 
 -- ---- `compare_picked`
 

@@ -1,14 +1,19 @@
--- The loop of `compare_varint_sum`: what is still to be read gives the rest of the sum. Assumes nothing.
+-- What a write of a varint gives, as one number; and the loop of `compare_varint_sum`: what is still to be read gives the rest of the sum.
+-- Assumes nothing.
 use Prim.Native.Nat.{ℕ, zero, suc, _+_, _-_, _%_, _^_, _≤_, _<_}
-use mathlib.Core.Path.{_≡_, refl, sym, _∙_}
+use mathlib.Core.Path.{_≡_, refl, sym, ap, _∙_}
 use mathlib.Core.List.{List}
 use native.Mathlib.Omega.{arith}
 use lib.ListN.{length, drop, drop-of-length-le}
 use lib.Seq.{drop-drop}
-use Rattle.wire.specs.Answer.{result, refused}
-use Rattle.varint.specs.Varint.{classAt, readOf}
+use Rattle.wire.specs.Answer.{result, refused, coded}
+use Rattle.varint.specs.Varint.{classAt, readOf, widthOf, Written}
 use Rattle.varint.specs.declared.Varint.{Varint}
-use Rattle.compare_calls.specs.Sums.{sumFrom, sumOf}
+use Rattle.varint.specs.declared.Width.{Width}
+use Rattle.compare_calls.specs.Sums.{sumFrom, sumOf, PutCoded}
+
+pub written-coded : {v : ℕ} {old new : List ℕ} {r : Width} → Written v old r new → PutCoded v old (coded (widthOf r)) new
+written-coded w = record { is = ap coded (w .is); output = w .output }
 
 -- enough fuel is left for the bytes from a place on, and they give the whole sum
 pub record Summing (s : List ℕ) (at sum : ℕ) : Type 0 where

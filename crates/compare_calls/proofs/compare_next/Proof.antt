@@ -6,9 +6,6 @@ use borrow.Author.Needs.{needs}
 use Rattle.compare_calls.proofs.compare_next.Statement.{statement}
 use Rattle.compare_calls.proofs.compare_next.Tie as tie
 
-enum-told : tie.Need-enum-told
-enum-told c = search needs
-
 add-result : tie.Need-add-result
 add-result c =
     let next-record = c .before .before .before .next-record in
@@ -35,7 +32,7 @@ compare-next-spec =
     (tie.spec
     (λ c κs. search needs)  -- next-record-requires
     (λ c. search needs)  -- enum-known-after
-    enum-told
+    (λ c. search needs)  -- enum-told
     (λ c. search needs)  -- enum-known-n
     add-result
     returns

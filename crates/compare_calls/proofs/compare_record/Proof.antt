@@ -5,19 +5,10 @@ use borrow.Author.Needs.{needs}
 use Rattle.compare_calls.proofs.compare_record.Statement.{statement}
 use Rattle.compare_calls.proofs.compare_record.Tie as tie
 
-split-records-requires : tie.Need-split-records-requires
-split-records-requires c κs = search needs
-
 returns : tie.Need-returns
 returns c =
     let args = c .before .before .before .before .args in
     no-room (now (args .blob)) (args .place) _ (now (args .out)) (c .before .split-records .ensures) (c .if1 .taken)
-
-put-bytes-requires : tie.Need-put-bytes-requires
-put-bytes-requires c κs = search needs
-
-same-length : tie.Need-same-length
-same-length c = search needs
 
 returns-2 : tie.Need-returns-2
 returns-2 c =
@@ -29,4 +20,10 @@ returns-2 c =
 
 pub compare-record-spec : {M : Type 1} → statement M
 compare-record-spec =
-    tie.close (tie.spec split-records-requires returns put-bytes-requires same-length returns-2)
+    tie.close
+    (tie.spec
+    (λ c κs. search needs)  -- split-records-requires
+    returns
+    (λ c κs. search needs)  -- put-bytes-requires
+    (λ c. search needs)  -- same-length
+    returns-2)

@@ -10,37 +10,29 @@ use Rattle.compare_calls.proofs.compare_report.Tie as tie
 
 add-result : tie.Need-add-result
 add-result c =
-    let args = c .before .before .before .before .before .before .before .before .before .args in
     let say-report = c .before .before .before .before .before .say-report in
-    let hello = now (args .hello) in
-    omega (arith, rw (c .before .number .given .1) at (report-number (say-report .result) (now (args .out)) _ (read hello) (read-numbered hello) (say-report .ensures)))
-
-enum-told : tie.Need-enum-told
-enum-told c = search needs
+    let hello = now (c .before .before .before .before .before .before .before .before .before .args .hello) in
+    omega (arith, rw (c .before .number .given .1) at (report-number (read hello) (read-numbered hello) (say-report .ensures)))
 
 returns : tie.Need-returns
 returns c =
-    let args = c .before .before .before .before .before .before .before .before .before .args in
-    let say-report = c .before .before .before .before .before .say-report in
-    rw (c .before .n .given .1) at (report-coded (say-report .result) (now (args .out)) _ (read (now (args .hello))) (say-report .ensures))
+    let said = c .before .before .before .before .before in
+    rw (c .before .n .given .1) at (report-coded (read (now (said .before .before .before .before .args .hello))) (said .say-report .ensures))
 
 returns-2 : tie.Need-returns-2
 returns-2 c =
-    let args = c .before .before .before .before .before .before .before .before .before .args in
-    let say-report = c .before .before .before .before .before .say-report in
-    rw (c .before .n2 .given .1) at (report-coded (say-report .result) (now (args .out)) _ (read (now (args .hello))) (say-report .ensures))
+    let said = c .before .before .before .before .before in
+    rw (c .before .n2 .given .1) at (report-coded (read (now (said .before .before .before .before .args .hello))) (said .say-report .ensures))
 
 returns-3 : tie.Need-returns-3
 returns-3 c =
-    let args = c .before .before .before .before .before .before .before .before .before .args in
-    let say-report = c .before .before .before .before .before .say-report in
-    rw (c .before .number .given .1) at (report-coded (say-report .result) (now (args .out)) _ (read (now (args .hello))) (say-report .ensures))
+    let said = c .before .before .before .before .before in
+    rw (c .before .number .given .1) at (report-coded (read (now (said .before .before .before .before .args .hello))) (said .say-report .ensures))
 
 returns-4 : tie.Need-returns-4
 returns-4 c =
-    let args = c .before .before .before .before .before .before .before .before .args in
-    let say-report = c .before .before .before .before .say-report in
-    rw (c .enum-told .given .1) at (report-coded (say-report .result) (now (args .out)) _ (read (now (args .hello))) (say-report .ensures))
+    let said = c .before .before .before .before in
+    rw (c .enum-told .given .1) at (report-coded (read (now (said .before .before .before .before .args .hello))) (said .say-report .ensures))
 
 pub compare-report-spec : {M : Type 1} → statement M
 compare-report-spec =
@@ -51,7 +43,7 @@ compare-report-spec =
     (λ c. search needs)  -- enum-known-n-2
     (λ c. search needs)  -- enum-known-number
     add-result
-    enum-told
+    (λ c. search needs)  -- enum-told
     (λ c. search needs)  -- same-length
     returns
     (λ c. search needs)  -- same-length-2

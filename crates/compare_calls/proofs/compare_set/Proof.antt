@@ -1,14 +1,11 @@
 -- The answer of the command `set` as one number. Assumes nothing.
-use denote.Ref.{now}
 use Rattle.compare_calls.proofs.ReadingLaws.{text-coded}
 use borrow.Author.Needs.{needs}
 use Rattle.compare_calls.proofs.compare_set.Statement.{statement}
 use Rattle.compare_calls.proofs.compare_set.Tie as tie
 
 returns : tie.Need-returns
-returns c =
-    let say-set = c .before .before .before .before .before .say-set in
-    rw (c .before .n .given .1) at (text-coded (say-set .result) (now (c .before .before .before .before .before .before .before .before .before .args .out)) _ _ (say-set .ensures))
+returns c = rw (c .before .n .given .1) at (text-coded (c .before .before .before .before .before .say-set .ensures))
 
 pub compare-set-spec : {M : Type 1} → statement M
 compare-set-spec =

@@ -19,9 +19,6 @@ bounds c =
     let h = now (c .before .before .before .before .before .args .hello) in
     subst (λ (x : Stop). StopBounds (length h) x) (c .before .number .given .1) (c .before .before .before .stopped-at .ensures .1)
 
-enum-told : tie.Need-enum-told
-enum-told c = search needs
-
 mul-result : tie.Need-mul-result
 mul-result c = omega (arith, bounds c .0 .1)
 
@@ -39,7 +36,7 @@ compare-stopped-spec =
     tie.close
     (tie.spec
     (λ c κs. search needs)  -- stopped-at-requires
-    enum-told
+    (λ c. search needs)  -- enum-told
     (λ c. search needs)  -- enum-known-number
     mul-result
     add-result

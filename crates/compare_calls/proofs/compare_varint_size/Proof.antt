@@ -6,15 +6,6 @@ use borrow.Author.Needs.{needs}
 use Rattle.compare_calls.proofs.compare_varint_size.Statement.{statement}
 use Rattle.compare_calls.proofs.compare_varint_size.Tie as tie
 
-size-requires : tie.Need-size-requires
-size-requires c κs = search needs
-
-enum-known-w : tie.Need-enum-known-w
-enum-known-w c = search needs
-
-enum-known-n : tie.Need-enum-known-n
-enum-known-n c = search needs
-
 add-result : tie.Need-add-result
 add-result c = omega (arith, rw (c .before .n .given .1) at (c .before .before .before .size .ensures .bounds))
 
@@ -26,4 +17,11 @@ returns-2 c = ap coded (rw (c .before .n .given .1) at (c .before .before .befor
 
 pub compare-varint-size-spec : {M : Type 1} → statement M
 compare-varint-size-spec =
-    tie.close (tie.spec size-requires enum-known-w enum-known-n add-result returns returns-2)
+    tie.close
+    (tie.spec
+    (λ c κs. search needs)  -- size-requires
+    (λ c. search needs)  -- enum-known-w
+    (λ c. search needs)  -- enum-known-n
+    add-result
+    returns
+    returns-2)

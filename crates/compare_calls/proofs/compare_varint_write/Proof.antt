@@ -1,7 +1,6 @@
 -- The answer of `write` as one number, and the output as `write` left it. Assumes nothing.
 use native.Mathlib.Omega.{arith}
-use mathlib.Core.Path.{ap}
-use Rattle.wire.specs.Answer.{coded}
+use Rattle.compare_calls.proofs.SumLaws.{written-coded}
 use borrow.Author.Needs.{needs}
 use Rattle.compare_calls.proofs.compare_varint_write.Statement.{statement}
 use Rattle.compare_calls.proofs.compare_varint_write.Tie as tie
@@ -10,16 +9,10 @@ add-result : tie.Need-add-result
 add-result c = omega (arith, rw (c .before .n .given .1) at (c .before .before .before .before .before .write .ensures .bounds))
 
 returns : tie.Need-returns
-returns c =
-    let w = c .before .w in
-    let write = c .before .before .before .before .before .write in
-    record { is = ap coded (rw (w .given .1) at (write .ensures .is)); output = (write .ensures .output) }
+returns c = rw (c .before .w .given .1) at (written-coded (c .before .before .before .before .before .write .ensures))
 
 returns-2 : tie.Need-returns-2
-returns-2 c =
-    let n = c .before .n in
-    let write = c .before .before .before .before .before .write in
-    record { is = ap coded (rw (n .given .1) at (write .ensures .is)); output = (write .ensures .output) }
+returns-2 c = rw (c .before .n .given .1) at (written-coded (c .before .before .before .before .before .write .ensures))
 
 pub compare-varint-write-spec : {M : Type 1} → statement M
 compare-varint-write-spec =

@@ -1,25 +1,18 @@
 -- The answer of the frame writer as one number. Assumes nothing.
 use native.Mathlib.Omega.{arith}
-use mathlib.Core.Path.{ap}
-use Rattle.wire.specs.Answer.{coded}
+use Rattle.crustdelta_c.proofs.CallLaws.{cut-coded}
 use borrow.Author.Needs.{needs}
 use Rattle.crustdelta_c.proofs.crustdelta_frames.Statement.{statement}
 use Rattle.crustdelta_c.proofs.crustdelta_frames.Tie as tie
 
 add-result : tie.Need-add-result
-add-result c =
-    let write-frames = c .before .before .before .before .before .write-frames in
-    omega (arith, rw (c .before .n .given .1) at (write-frames .ensures .bounds))
+add-result c = omega (arith, rw (c .before .n .given .1) at (c .before .before .before .before .before .write-frames .ensures .bounds))
 
 returns : tie.Need-returns
-returns c =
-    let write-frames = c .before .before .before .before .before .write-frames in
-    record { is = ap coded (rw (c .before .length .given .1) at (write-frames .ensures .is)); output = (write-frames .ensures .output) }
+returns c = rw (c .before .length .given .1) at (cut-coded (c .before .before .before .before .before .write-frames .ensures))
 
 returns-2 : tie.Need-returns-2
-returns-2 c =
-    let write-frames = c .before .before .before .before .before .write-frames in
-    record { is = ap coded (rw (c .before .n .given .1) at (write-frames .ensures .is)); output = (write-frames .ensures .output) }
+returns-2 c = rw (c .before .n .given .1) at (cut-coded (c .before .before .before .before .before .write-frames .ensures))
 
 pub crustdelta-frames-spec : {M : Type 1} → statement M
 crustdelta-frames-spec =

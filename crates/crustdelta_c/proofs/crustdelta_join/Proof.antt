@@ -1,25 +1,18 @@
 -- The answer of the joiner as one number. Assumes nothing.
 use native.Mathlib.Omega.{arith}
-use mathlib.Core.Path.{ap}
-use Rattle.wire.specs.Answer.{coded}
+use Rattle.crustdelta_c.proofs.CallLaws.{joined-coded}
 use borrow.Author.Needs.{needs}
 use Rattle.crustdelta_c.proofs.crustdelta_join.Statement.{statement}
 use Rattle.crustdelta_c.proofs.crustdelta_join.Tie as tie
 
 add-result : tie.Need-add-result
-add-result c =
-    let reassemble-crypto = c .before .before .before .before .before .before .before .reassemble-crypto in
-    omega (arith, rw (c .before .n .given .1) at (reassemble-crypto .ensures .bounds))
+add-result c = omega (arith, rw (c .before .n .given .1) at (c .before .before .before .before .before .before .before .reassemble-crypto .ensures .bounds))
 
 returns : tie.Need-returns
-returns c =
-    let joined = c .before .before .before .before .before .before .before .reassemble-crypto in
-    record { is = ap coded (rw (c .before .end .given .1) at (joined .ensures .is)); output = joined .ensures .output; marked = joined .ensures .marked }
+returns c = rw (c .before .end .given .1) at (joined-coded (c .before .before .before .before .before .before .before .reassemble-crypto .ensures))
 
 returns-2 : tie.Need-returns-2
-returns-2 c =
-    let joined = c .before .before .before .before .before .before .before .reassemble-crypto in
-    record { is = ap coded (rw (c .before .n .given .1) at (joined .ensures .is)); output = joined .ensures .output; marked = joined .ensures .marked }
+returns-2 c = rw (c .before .n .given .1) at (joined-coded (c .before .before .before .before .before .before .before .reassemble-crypto .ensures))
 
 pub crustdelta-join-spec : {M : Type 1} → statement M
 crustdelta-join-spec =

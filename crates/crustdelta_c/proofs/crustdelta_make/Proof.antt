@@ -1,27 +1,19 @@
 -- The length that the maker answers, as one number. Assumes nothing.
 use native.Mathlib.Omega.{arith}
-use mathlib.Core.Path.{ap}
-use Rattle.wire.specs.Answer.{Answer, result, andThen, coded}
-use Rattle.tls.specs.declared.Hello.{Hello}
+use Rattle.crustdelta_c.proofs.CallLaws.{made-coded}
 use Rattle.crustdelta_c.specs.Calls.{lengthOf}
 use borrow.Author.Needs.{needs}
 use Rattle.crustdelta_c.proofs.crustdelta_make.Statement.{statement}
 use Rattle.crustdelta_c.proofs.crustdelta_make.Tie as tie
 
 add-result : tie.Need-add-result
-add-result c =
-    let made = c .before .before .before .before .before .generate-client-hello in
-    omega (arith, rw (c .before .n .given .1) at (made .ensures .bounds))
+add-result c = omega (arith, rw (c .before .n .given .1) at (c .before .before .before .before .before .generate-client-hello .ensures .bounds))
 
 returns : tie.Need-returns
-returns c =
-    let made = c .before .before .before .before .before .generate-client-hello in
-    record { is = ap (λ (a : Answer Hello). coded (andThen a (λ h. result (lengthOf h)))) (rw (c .before .hello .given .1) at (made .ensures .is)); output = made .ensures .output }
+returns c = rw (c .before .hello .given .1) at (made-coded lengthOf (c .before .before .before .before .before .generate-client-hello .ensures))
 
 returns-2 : tie.Need-returns-2
-returns-2 c =
-    let made = c .before .before .before .before .before .generate-client-hello in
-    record { is = ap (λ (a : Answer Hello). coded (andThen a (λ h. result (lengthOf h)))) (rw (c .before .n .given .1) at (made .ensures .is)); output = made .ensures .output }
+returns-2 c = rw (c .before .n .given .1) at (made-coded lengthOf (c .before .before .before .before .before .generate-client-hello .ensures))
 
 pub crustdelta-make-spec : {M : Type 1} → statement M
 crustdelta-make-spec =
