@@ -1,3 +1,4 @@
 pub mod CallLaws
 pub mod ReadLaws
 pub mod ReportLaws
+pub mod Samples

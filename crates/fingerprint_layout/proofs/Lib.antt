@@ -5,3 +5,4 @@ pub mod FoundLaws
 pub mod LayoutLaws
 pub mod OffsetLaws
 pub mod WrittenLaws
+pub mod Samples

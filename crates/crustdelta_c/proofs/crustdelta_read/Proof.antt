@@ -18,7 +18,7 @@ returns : tie.Need-returns
 returns c =
     let hello = now (c .before .before .before .args .hello) in
     let refusal = c .before .refusal in
-    none-refused (refusal .result) (read hello) (read-numbered hello) (refusal .ensures) (c .if1 .taken)
+    none-refused (refusal .result) (read hello) (read-numbered hello) (refusal .ensures) (omega (arith, c .if1 .taken))
 
 returns-2 : tie.Need-returns-2
 returns-2 c =
