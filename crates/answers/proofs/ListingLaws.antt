@@ -8,7 +8,8 @@ use lib.ListN.{length}
 use borrow.Author.Tests.{ne-eqb, le-leb}
 use Rattle.wire.specs.Stops.{Stopped, stopped}
 use Rattle.fingerprint_stops.specs.Stops.{stoppedAt}
-use Rattle.show_hello.specs.Text.{verdictParts, stopFrom, Listed}
+use Rattle.show_marks.specs.Text.{verdictParts, stopFrom}
+use Rattle.show_hello.specs.Listing.{Listed}
 use Rattle.frames.specs.Join.{limit, roomy}
 use Rattle.frames.specs.Stops.{joinStops, joinerStops}
 use Rattle.show_frames.specs.Frames.{FramesListed}

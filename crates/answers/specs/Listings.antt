@@ -5,7 +5,8 @@ use mathlib.Core.List.{List, _++_}
 use lib.ListN.{length}
 use Rattle.frames.specs.Stops.{joinStops}
 use Rattle.fingerprint_stops.specs.Stops.{stoppedAt}
-use Rattle.show_hello.specs.Text.{allRows, verdictParts, LinesParts}
+use Rattle.show_marks.specs.Text.{verdictParts, LinesParts}
+use Rattle.show_hello.specs.Listing.{allRows}
 use Rattle.show_frames.specs.Frames.{rowsOf, room, shownRows}
 use Rattle.answers.specs.Said.{plain, saidCount, Says}
 use Rattle.answers.specs.declared.Said.{Said}

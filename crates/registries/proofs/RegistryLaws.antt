@@ -15,10 +15,9 @@ use Rattle.script.specs.Scan.{space, distance, findOf}
 use Rattle.script.specs.Words.{wordFrom, wordOf, isThere, hasOperands}
 use Rattle.script.specs.declared.words.Word.{Word}
 use Rattle.script.specs.declared.words.Word.the-variants as the-word
-use Rattle.registries.specs.Registry.{text, texts, word, placeOf, spareWords, nameIn, rises, isTable}
+use Rattle.registries.specs.Registry.{texts, word, placeOf, spareWords, nameIn, rises, isTable}
 use Rattle.registries.specs.Tables.{suites, suiteNames, groups, groupNames, algorithms, algorithmNames, types, typeNames}
 use Rattle.registries.specs.Tables.{versions, versionNames, parameters, parameterNames}
-use Rattle.registries.specs.Tables.{suiteName, groupName, typeName, parameterName}
 
 -- ---- a name, by the number's place
 
@@ -143,27 +142,5 @@ pub rising-tables :
     × (isTable parameters parameterNames ≡ true)
 unfolding
     suites suiteNames groups groupNames algorithms algorithmNames types typeNames versions versionNames parameters parameterNames
-    texts text isTable rises hasOperands wordOf wordFrom findOf distance
+    texts isTable rises hasOperands wordOf wordFrom findOf distance
 rising-tables = (refl, refl, refl, refl, refl, refl)
-
--- ---- samples
-
-pub suite-1301 : suiteName 0 0x1301 ≡ text "TLS_AES_128_GCM_SHA256"
-unfolding suiteName suites suiteNames texts text nameIn placeOf word wordOf wordFrom findOf distance
-suite-1301 = refl
-
-pub group-17 : groupName 0 0x0017 ≡ text "secp256r1"
-unfolding groupName groups groupNames texts text nameIn placeOf word wordOf wordFrom findOf distance
-group-17 = refl
-
-pub type-17 : typeName 0 0x0017 ≡ text "extended_master_secret"
-unfolding typeName types typeNames texts text nameIn placeOf word wordOf wordFrom findOf distance
-type-17 = refl
-
-pub parameter-1 : parameterName 0 0x01 ≡ text "max_idle_timeout"
-unfolding parameterName parameters parameterNames texts text nameIn placeOf word wordOf wordFrom findOf distance
-parameter-1 = refl
-
-pub type-5005 : typeName 0 0x5005 ≡ text "unknown"
-unfolding typeName types texts text nameIn placeOf word spareWords wordOf wordFrom findOf distance
-type-5005 = refl

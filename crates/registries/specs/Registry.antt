@@ -1,19 +1,12 @@
 -- A registry: numbers, and a text with a word for each of them, in the same order.
 use Prim.Native.Nat.{ℕ, _-_}
-use Prim.Native.Char.{code}
-use Prim.Native.String as native
 use Prim.Native.String.{String}
 use mathlib.Core.Bool.{Bool, true, cond, _&&_}
 use mathlib.Core.List.{List, [], _∷_, _++_}
 use lib.ListN.{length}
 use lib.Dec.{ltb}
-use Rattle.script.specs.Scan.{distance}
+use Rattle.script.specs.Scan.{text, distance}
 use Rattle.script.specs.Words.{wordOf, wordText, hasOperands}
-
--- the bytes of a text
-unfoldable pub text : String → List ℕ
-text native.[] = []
-text (native._∷_ c s) = code c ∷ text s
 
 unfoldable pub texts : List String → List ℕ
 texts [] = []

@@ -18,11 +18,11 @@ use Rattle.frames.specs.declared.reading.CryptoFrame.{CryptoFrame}
 use Rattle.frames.specs.declared.reading.FrameRead.{FrameRead}
 use Rattle.frames.specs.Read.{Shape, padding, ping, crypto, readCrypto, readFrame, shapeOf, FrameFound}
 use Rattle.frames.proofs.ReadBack.{extent-bounds}
-use Rattle.show_lines.specs.Lines.{Row, Tiles, countHolding}
+use Rattle.show_lines.specs.Lines.{Row, Tiles}
 use Rattle.show_lines.proofs.PartLaws.{cond-elim}
-use Rattle.show_lines.proofs.LineLaws.{tiles-up, one-holds}
-use Rattle.show_hello.specs.Text.{lastRow, countMarked}
-use Rattle.show_hello.proofs.MarkLaws.{tiles-more}
+use Rattle.show_lines.proofs.LineLaws.{tiles-up}
+use Rattle.show_marks.specs.Text.{countMarked}
+use Rattle.show_marks.proofs.MarkLaws.{last-tile, one-marked}
 use Rattle.show_frames.specs.Frames.{zeros, sizeBy, lineSize, frameRows, rowsOf, endFrom, shownRows}
 
 -- ---- How many bytes a line takes
@@ -126,11 +126,8 @@ first-tile (suc k) at (r ∷ rs) end (e, f, t) = let more = first-tile k (r .end
 pub shown-tile : (count : ℕ) (bs : List ℕ) → Tiles 0 (shownRows count bs) (suc (length bs))
 unfolding shownRows
 shown-tile count bs =
-    let shown : List Row = take count (rowsOf bs) in
     let first = first-tile count 0 (rowsOf bs) (length bs) (frames-tile bs) in
-    tiles-more 0 shown (endFrom 0 shown) (lastRow bs (endFrom 0 shown)) (first .0) refl (omega (arith, first .1))
+    last-tile bs (take count (rowsOf bs)) (endFrom 0 (take count (rowsOf bs))) (first .0) (first .1)
 
-pub one-marked : (count : ℕ) (bs : List ℕ) (s : Stopped) → s .place ≤ length bs → countMarked (some s) (shownRows count bs) ≡ 1
-unfolding countMarked countHolding
-one-marked count bs s k =
-    one-holds (s .place) 0 (shownRows count bs) (suc (length bs)) (shown-tile count bs) (omega arith) (omega arith)
+pub one-mark : (count : ℕ) (bs : List ℕ) (s : Stopped) → s .place ≤ length bs → countMarked (some s) (shownRows count bs) ≡ 1
+one-mark count bs s k = one-marked s (shownRows count bs) (length bs) (shown-tile count bs) k

@@ -12,10 +12,11 @@ use Rattle.wire.proofs.ListLaws.{length-part-to-end}
 use Rattle.script.specs.Answers.{WrittenAll}
 use Rattle.script.proofs.AnswerLaws.{written-more}
 use Rattle.wire.specs.Stops.{Stopped}
-use Rattle.show_lines.specs.Lines.{Row}
-use Rattle.show_hello.specs.Text.{row, lastRow, verdictParts, LinesParts, LineWritten}
-use Rattle.show_hello.proofs.WroteLaws.{all-none}
-use Rattle.show_hello.proofs.LineLaws.{lines-more}
+use Rattle.show_lines.specs.Lines.{Row, row}
+use Rattle.show_marks.specs.Text.{lastRow, verdictParts, LinesParts}
+use Rattle.show_words.specs.Code.{LineWritten}
+use Rattle.show_words.proofs.WroteLaws.{all-none}
+use Rattle.show_words.proofs.LineLaws.{lines-more}
 use Rattle.show_frames.specs.Frames.{lineSize, frameRows, rowsOf, endFrom, shownRows, room, RowsWritten, FramesListed}
 
 pub record Going (bs : List ℕ) (stop : Option Stopped) (at used : ℕ) (old out : List ℕ) : Type 0 where

@@ -11,8 +11,8 @@ use Rattle.wire.specs.Answer.{Answer, result, refused}
 use Rattle.script.specs.Answers.{WrittenAll}
 use Rattle.wire.specs.Stops.{Stopped}
 use Rattle.frames.specs.Read.{Shape, padding, ping, crypto, readFrame}
-use Rattle.show_lines.specs.Lines.{Row}
-use Rattle.show_hello.specs.Text.{row, lastRow, verdictParts, LinesParts}
+use Rattle.show_lines.specs.Lines.{Row, row}
+use Rattle.show_marks.specs.Text.{lastRow, verdictParts, LinesParts}
 
 -- how many bytes 00 stand at the front
 unfoldable pub zeros : List ℕ → ℕ

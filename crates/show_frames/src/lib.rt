@@ -3,19 +3,19 @@
 ghost use Prim.Native.Nat.{_+_, _≤_, _<_, _^_};
 ghost use mathlib.Core.Path.{_≡_};
 ghost use lib.ListN.{length};
-ghost use Rattle.show_hello.specs.Text.{row, lastRow, stopFrom, Wrote, ReasonWritten, LineWritten};
+ghost use Rattle.show_lines.specs.Lines.{row};
+ghost use Rattle.show_marks.specs.Text.{lastRow, stopFrom};
+ghost use Rattle.show_words.specs.Code.{LineWritten};
 ghost use Rattle.show_frames.specs.Frames as specs;
 ghost use Rattle.show_frames.specs.Frames.{lineSize, RowsWritten, FramesListed};
 use frames::reading::CryptoFrame;
 use frames::reading::FrameRead;
 use frames::reading::read_frame;
-use script::writing::put_number;
-use script::writing::put_text;
-use show_hello::is_marked;
-use show_hello::line::put_bytes_of;
-use show_hello::line::put_some;
-use show_hello::put_front;
-use show_hello::put_verdict;
+use show_marks::put_verdict;
+use show_words::Spot;
+use show_words::Stop;
+use show_words::Told;
+use show_words::put_line;
 
 // A list of frames may have up to 131,072 bytes, so a place has five hex digits.
 const DIGITS: usize = 5;
@@ -50,60 +50,75 @@ fn line_size(input: &[u8]) -> usize
     }
 }
 
-// Writes a CRYPTO frame's words: where its data begins in the stream, how long it is, and where it ends.
-fn put_crypto(out: &mut [u8], c: CryptoFrame) -> usize
+// The words of a frame and of the last line, and the questions of the refusals 11 to 15.
+const TABLE: [u8; 318] = *b"\
+    <PADDING,-#-$ <PING <CRYPTO-offset-%,-#-$,-end-+ <no-frame <rest,-for-which-there-is-no-room <end \
+    this-type-is-not-known:-00-PADDING,-01-PING-and-06-CRYPTO-are \
+    bytes-of-this-frame-are-missing \
+    this-frame-ends-past-16384 \
+    this-frame-has-another-byte-for-a-place-that-is-filled \
+    a-place-below-the-stream's-end-is-not-filled";
+
+const PADDING: usize = 0;
+
+const PING: usize = 1;
+
+const CRYPTO: usize = 2;
+
+const NO_FRAME: usize = 3;
+
+const REST: usize = 4;
+
+const END: usize = 5;
+
+// Which words say why the joiner stopped, by the number of the refusal.
+fn reason(number: u64) -> usize {
+    match number {
+        11 => 6,
+        12 => 7,
+        13 => 8,
+        14 => 9,
+        _ => 10,
+    }
+}
+
+// What is told by some words and up to three numbers, and of a refusal there.
+fn told(words: usize, number: u64, said: u64, left: u64, value: u64) -> Told {
+    Told {
+        words,
+        why: reason(number),
+        depth: 0,
+        noun: 0,
+        part: 0,
+        registry: 0,
+        id: 0,
+        front: 0,
+        said,
+        left,
+        value,
+    }
+}
+
+// Of a CRYPTO frame: where its data begins in the stream, how long it is, and where it ends.
+fn told_crypto(c: CryptoFrame, number: u64) -> Told
     requires { ⌜ (c .start ≤ c .end) × (c .end < 2 ^ 63) × (c .offset < 2 ^ 62) ⌝ }
-    ensures { λ r. ⌜ Wrote r (now (out .entry)) (now (out .exit)) ⌝ }
 {
     let length = (c.end - c.start) as u64;
-    let end = c.offset + length;
-    let n = put_number(out, b"  CRYPTO offset ", c.offset);
-    let m = n + put_bytes_of(&mut out[n..], b", ", length);
-    m + put_number(&mut out[m..], b", end ", end)
+    told(CRYPTO, number, length, c.offset + length, c.offset)
 }
 
-// Writes what the frame at the front is.
-fn put_frame(out: &mut [u8], input: &[u8]) -> usize
-    ensures { λ r. ⌜ Wrote r (now (out .entry)) (now (out .exit)) ⌝ }
-{
+// Of the frame at the front.
+fn told_frame(input: &[u8], number: u64) -> Told {
     match read_frame(input) {
-        FrameRead::Padding => put_bytes_of(out, b"  PADDING, ", zeros(input) as u64),
-        FrameRead::Ping => put_text(out, b"  PING"),
-        FrameRead::Crypto(c) => put_crypto(out, c),
-        FrameRead::Refused(_) => put_text(out, b"  no frame"),
+        FrameRead::Padding => told(PADDING, number, zeros(input) as u64, 0, 0),
+        FrameRead::Ping => told(PING, number, 0, 0, 0),
+        FrameRead::Crypto(c) => told_crypto(c, number),
+        FrameRead::Refused(_) => told(NO_FRAME, number, 0, 0, 0),
     }
-}
-
-// Writes the question of a refusal in words.
-fn put_question(out: &mut [u8], number: u64) -> usize
-    ensures { λ r. ⌜ Wrote r (now (out .entry)) (now (out .exit)) ⌝ }
-{
-    match number {
-        11 => put_some(
-            out,
-            b"this type is not known: 00 PADDING, 01 PING and 06 CRYPTO are",
-        ),
-        12 => put_some(out, b"bytes of this frame are missing"),
-        13 => put_some(out, b"this frame ends past 16384"),
-        14 => put_some(
-            out,
-            b"this frame has another byte for a place that is filled",
-        ),
-        _ => put_some(out, b"a place below the stream's end is not filled"),
-    }
-}
-
-// Writes the number of a refusal and its question.
-fn put_reason(out: &mut [u8], number: u64) -> usize
-    ensures { λ r. ⌜ ReasonWritten number r (now (out .entry)) (now (out .exit)) ⌝ }
-{
-    let n = put_number(out, b"  -- ", number);
-    let m = n + put_text(&mut out[n..], b": ");
-    m + put_question(&mut out[m..], number)
 }
 
 // Writes the line of so many bytes at a place of the list.
-fn put_line(
+fn put_row(
     out: &mut [u8],
     frames: &[u8],
     at: usize,
@@ -114,25 +129,18 @@ fn put_line(
     requires { ⌜ at + size ≤ length (now frames) ⌝ }
     ensures { λ r. ⌜ LineWritten 5 (now (frames .entry)) (stopFrom number place) (row at (at + size) 0) r (now (out .entry)) (now (out .exit)) ⌝ }
 {
-    let end = at + size;
-    let marked = is_marked(number, place, at, end);
-    let n = put_front(out, marked, DIGITS, at, &frames[at..end]);
-    let m = n + put_frame(&mut out[n..], &frames[at..]);
-    if marked {
-        return m + put_reason(&mut out[m..], number);
-    }
-    m
+    let spot = Spot {
+        digits: DIGITS,
+        at,
+        past: at + size,
+        what: 0,
+    };
+    let t = told_frame(&frames[at..], number);
+    put_line(out, frames, spot, Stop { number, place }, &TABLE, t)
 }
 
-// Writes what the last line is.
-fn put_last(out: &mut [u8], rest: bool) -> usize
-    ensures { λ r. ⌜ Wrote r (now (out .entry)) (now (out .exit)) ⌝ }
-{
-    if rest {
-        put_some(out, b"  rest, for which there is no room")
-    } else {
-        put_some(out, b"  end")
-    }
+fn last_words(at: usize, length: usize) -> usize {
+    if at < length { REST } else { END }
 }
 
 // Writes the last line: the list's end, or what is left of it where the answer has no more room.
@@ -141,13 +149,14 @@ fn put_end(out: &mut [u8], frames: &[u8], at: usize, number: u64, place: usize) 
     ensures { λ r. ⌜ LineWritten 5 (now (frames .entry)) (stopFrom number place) (lastRow (now (frames .entry)) at) r (now (out .entry)) (now (out .exit)) ⌝ }
 {
     let length = frames.len();
-    let marked = is_marked(number, place, at, length + 1);
-    let n = put_front(out, marked, DIGITS, at, &frames[at..]);
-    let m = n + put_last(&mut out[n..], at < length);
-    if marked {
-        return m + put_reason(&mut out[m..], number);
-    }
-    m
+    let spot = Spot {
+        digits: DIGITS,
+        at,
+        past: length + 1,
+        what: 26,
+    };
+    let t = told(last_words(at, length), number, 0, 0, 0);
+    put_line(out, frames, spot, Stop { number, place }, &TABLE, t)
 }
 
 // Writes all lines.
@@ -161,7 +170,7 @@ fn put_lines(out: &mut [u8], frames: &[u8], number: u64, place: usize) -> usize
             break;
         }
         let size = line_size(&frames[at..]);
-        used = used + put_line(&mut out[used..], frames, at, size, number, place);
+        used = used + put_row(&mut out[used..], frames, at, size, number, place);
         at = at + size;
     }
     used + put_end(&mut out[used..], frames, at, number, place)

@@ -1,6 +1,4 @@
-pub mod WroteLaws
-pub mod RunLaws
-pub mod LineLaws
+pub mod TurnLaws
 pub mod WholeLaws
 -- the definitions alone
 pub mod MarkLaws

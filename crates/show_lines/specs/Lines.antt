@@ -143,6 +143,9 @@ pub record Row : Type 0 where
   pub end : ℕ
   pub what : ℕ
 
+abbrev pub row : ℕ → ℕ → ℕ → Row
+row at end what = record { at = at; end = end; what = what }
+
 -- a line takes a byte at least, so the count of the bytes is fuel enough
 unfoldable pub listed : ℕ → List ℕ → Cursor → List Row
 listed zero h c = []

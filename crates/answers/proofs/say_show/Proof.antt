@@ -3,7 +3,7 @@ use mathlib.Core.Path.{sym, ap, _∙_, subst}
 use denote.Ref.{now}
 use Rattle.wire.specs.Stops.{stopOf, StopBounds}
 use Rattle.wire.specs.declared.Stop.{Stop}
-use Rattle.show_hello.specs.Text.{stopFrom}
+use Rattle.show_marks.specs.Text.{stopFrom}
 use Rattle.answers.proofs.ListingLaws.{stop-numbered, shows-listing}
 use borrow.Author.Needs.{needs}
 use lib.ListN.{length}

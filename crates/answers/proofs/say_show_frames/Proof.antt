@@ -4,7 +4,7 @@ use denote.Ref.{now}
 use lib.ListN.{length}
 use Rattle.wire.specs.Stops.{stopOf, StopBounds}
 use Rattle.wire.specs.declared.Stop.{Stop}
-use Rattle.show_hello.specs.Text.{stopFrom}
+use Rattle.show_marks.specs.Text.{stopFrom}
 use Rattle.answers.proofs.ListingLaws.{stop-numbered, shows-frames, roomy-stops}
 use borrow.Author.Needs.{needs}
 use Rattle.answers.proofs.say_show_frames.Statement.{statement}

@@ -2,7 +2,7 @@
 use mathlib.Core.Path.{sym, _∙_}
 use denote.Ref.{now}
 use borrow.Author.Needs.{needs}
-use Rattle.registries.specs.Registry.{text, word, spareWords}
+use Rattle.registries.specs.Registry.{word, spareWords}
 use Rattle.registries.proofs.RegistryLaws.{name-there, name-missing}
 use Rattle.registries.proofs.put_in.Statement.{statement}
 use Rattle.registries.proofs.put_in.Tie as tie
@@ -17,7 +17,7 @@ returns c =
     rw (there ∙ sym (c .before .before .before .word-at .ensures)) (c .before .before .put-text .ensures)
 
 returns-2 : tie.Need-returns-2
-unfolding word spareWords text
+unfolding word spareWords
 returns-2 c =
     let args = c .before .before .before .before .before .before .before .before .before .before .before .args in
     let place-of = c .before .before .before .before .before .before .before .place-of in

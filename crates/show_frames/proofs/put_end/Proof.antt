@@ -1,55 +1,20 @@
--- `put_end` meets its contract: place, bytes, words and, where it is marked, the reason, one after the other. Assumes nothing.
-use mathlib.Core.Path.{refl, _∙_}
-use Rattle.script.proofs.AnswerLaws.{written-more}
-use Rattle.show_hello.specs.Text.{lastRow, stopFrom}
-use Rattle.show_hello.proofs.LineLaws.{last-mark, last-bytes, line-plain, line-marked}
+-- `put_end` meets its contract: the last line's end, as the code has it. Assumes nothing.
+use native.Mathlib.Numerals.{add-one}
 use borrow.Author.Needs.{needs}
 use Rattle.show_frames.proofs.put_end.Statement.{statement}
 use Rattle.show_frames.proofs.put_end.Tie as tie
 
 returns : tie.Need-returns
-returns c =
-    let args = c .before .before .before .before .before .before .before .before .before .before .before .before .before .before .before .before .before .args in
-    let h = args .frames .now in
-    let mark = c .before .before .before .before .before .before .before .before .before .before .before .before .before .before .is-marked in
-    let words = c .before .before .before .before .before .before .before .put-last .ensures in
-    let front = written-more _ _ _ _ _ _ _ _ (c .before .before .before .before .before .before .before .before .before .before .before .put-front .ensures) refl (words .is) in
-    let reason = c .before .before .put-reason .ensures in
-    line-marked 5 h (args .number) (args .place) (lastRow h (args .at)) _ (last-bytes h (args .at)) (mark .result) (mark .ensures ∙ last-mark (stopFrom (args .number) (args .place)) h (args .at))
-    (words .parts) (reason .words) (c .before .before .before .before .if1 .taken)
-    (written-more _ _ _ _ _ _ _ _ front refl (reason .is))
-
-returns-2 : tie.Need-returns-2
-returns-2 c =
-    let args = c .before .before .before .before .before .before .before .before .before .before .before .before .before .args in
-    let h = args .frames .now in
-    let mark = c .before .before .before .before .before .before .before .before .before .before .is-marked in
-    let words = c .before .before .before .put-last .ensures in
-    let front = written-more _ _ _ _ _ _ _ _ (c .before .before .before .before .before .before .before .put-front .ensures) refl (words .is) in
-    line-plain 5 h (args .number) (args .place) (lastRow h (args .at)) _ (last-bytes h (args .at)) (mark .result) (mark .ensures ∙ last-mark (stopFrom (args .number) (args .place)) h (args .at))
-    (words .parts) (c .if1 .left) front
+returns c = rw add-one at (c .before .before .put-line .ensures)
 
 pub put-end-spec : {M : Type 1} → statement M
 put-end-spec =
     tie.close
     (tie.spec
-    (λ c. search needs)  -- add-is-marked
-    (λ c κs. search needs)  -- is-marked-requires
-    (λ c. search needs)  -- sub-put-front
-    (λ c. search needs)  -- part-put-front-start
-    (λ c. search needs)  -- part-put-front-end
-    (λ c κs. search needs)  -- put-front-requires
-    (λ c. search needs)  -- sub-put-last
-    (λ c. search needs)  -- part-put-last-start
-    (λ c. search needs)  -- part-put-last-end
-    (λ c κs. search needs)  -- put-last-requires
-    (λ c. search needs)  -- add-m
-    (λ c. search needs)  -- sub-put-reason
-    (λ c. search needs)  -- part-put-reason-start
-    (λ c. search needs)  -- part-put-reason-end
-    (λ c κs. search needs)  -- put-reason-requires
-    (λ c. search needs)  -- add-result
+    (λ c. search needs)  -- add-told
+    (λ c κs. search needs)  -- last-words-requires
+    (λ c κs. search needs)  -- told-requires
+    (λ c. search needs)  -- slice-aggregate-put-line
+    (λ c κs. search needs)  -- put-line-requires
     (λ c. search needs)  -- same-length
-    returns
-    (λ c. search needs)  -- same-length-2
-    returns-2)
+    returns)

@@ -1,6 +1,6 @@
 -- `put_frame_listing` meets its contract: the verdict and the lines are written one after the other. Assumes nothing.
 use mathlib.Core.Path.{refl}
-use Rattle.show_hello.specs.Text.{stopFrom}
+use Rattle.show_marks.specs.Text.{stopFrom}
 use Rattle.show_frames.proofs.TurnLaws.{listing-is}
 use borrow.Author.Needs.{needs}
 use Rattle.show_frames.proofs.put_frame_listing.Statement.{statement}

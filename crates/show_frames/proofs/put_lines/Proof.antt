@@ -5,7 +5,7 @@ use mathlib.Core.Logic.{⊎-elim}
 use native.Mathlib.Omega.{arith}
 use lib.ListN.{length}
 use Rattle.wire.proofs.ListLaws.{part-to-end, length-part-to-end}
-use Rattle.show_hello.specs.Text.{stopFrom}
+use Rattle.show_marks.specs.Text.{stopFrom}
 use Rattle.show_frames.specs.Frames.{lineSize}
 use Rattle.show_frames.proofs.TurnLaws.{Going, going-none, going-more, ended-whole, ended-short}
 use borrow.Author.Needs.{needs}
@@ -28,8 +28,8 @@ loop-holds c =
 line-size-requires : tie.Need-line-size-requires Inv-loop μ-loop
 line-size-requires c κs = omega (arith, length-part-to-end (c .before .before .before .before .before .before .args .frames .now) (c .before .before .before .loop .at))
 
-put-line-requires : tie.Need-put-line-requires Inv-loop μ-loop
-put-line-requires c κs =
+put-row-requires : tie.Need-put-row-requires Inv-loop μ-loop
+put-row-requires c κs =
     omega (arith, c .before .line-size .ensures .2, length-part-to-end (c .before .before .before .before .before .before .before .before .args .frames .now) (c .before .before .before .before .before .loop .at))
 
 loop-again : tie.Need-loop-again Inv-loop μ-loop
@@ -38,7 +38,7 @@ loop-again c =
     let h = args .frames .now in
     let l = c .before .before .before .before .before .before .before .before .loop in
     let size = c .before .before .before .before .line-size in
-    let w = c .before .before .put-line in
+    let w = c .before .before .put-row in
     let part = part-to-end h (l .at) in
     let long = length-part-to-end h (l .at) in (
       omega (arith, size .ensures .2, long),
@@ -72,10 +72,10 @@ put-lines-spec =
     (λ c. search needs)  -- part-line-size-start
     (λ c. search needs)  -- part-line-size-end
     line-size-requires
-    (λ c. search needs)  -- sub-put-line
-    (λ c. search needs)  -- part-put-line-start
-    (λ c. search needs)  -- part-put-line-end
-    put-line-requires
+    (λ c. search needs)  -- sub-put-row
+    (λ c. search needs)  -- part-put-row-start
+    (λ c. search needs)  -- part-put-row-end
+    put-row-requires
     (λ c. search needs)  -- add-used
     (λ c. search needs)  -- add-at
     (λ c. search needs)  -- loop-less

@@ -1,66 +1,23 @@
--- `show_hello::put_end` meets its contract: place, bytes, words and, where it is marked, the reason, one after the other. Assumes nothing.
-use mathlib.Core.Path.{refl, _∙_}
-use Rattle.script.proofs.AnswerLaws.{written-more}
-use Rattle.show_hello.specs.Text.{lastRow, stopFrom}
-use Rattle.show_hello.proofs.LineLaws.{last-mark, last-bytes, line-plain, line-marked}
+-- `put_end` meets its contract: the last line's end, as the code has it. Assumes nothing.
+use native.Mathlib.Numerals.{add-one}
 use borrow.Author.Needs.{needs}
 use Rattle.show_hello.proofs.put_end.Statement.{statement}
 use Rattle.show_hello.proofs.put_end.Tie as tie
 
 returns : tie.Need-returns
-returns c =
-    let args = c .before .before .before .before .before .before .before .before .before .before .before .before .before .before .before .before .before .before .before .before .args in
-    let stop = stopFrom (args .number) (args .place) in
-    let mark = c .before .before .before .before .before .before .before .before .before .before .before .before .before .before .before .before .before .is-marked in
-    let words = c .before .before .before .before .before .before .before .before .put-words .ensures in
-    let place = c .before .before .before .before .before .before .before .before .before .before .before .before .before .before .put-front .ensures in
-    let front = written-more _ _ _ _ _ _ _ _ place refl (words .is) in
-    let reason = c .before .before .put-reason .ensures in
-    let test = c .before .before .before .before .before .if1 .taken in
-    line-marked 4 (args .hello .now) (args .number) (args .place) (lastRow (args .hello .now) (args .at)) _ (last-bytes (args .hello .now) (args .at))
-    (mark .result) (mark .ensures ∙ last-mark stop (args .hello .now) (args .at)) (words .parts) (reason .words) test
-    (written-more _ _ _ _ _ _ _ _ front refl (reason .is))
-
-returns-2 : tie.Need-returns-2
-returns-2 c =
-    let args = c .before .before .before .before .before .before .before .before .before .before .before .before .before .before .before .args in
-    let stop = stopFrom (args .number) (args .place) in
-    let mark = c .before .before .before .before .before .before .before .before .before .before .before .before .is-marked in
-    let words = c .before .before .before .put-words .ensures in
-    let place = c .before .before .before .before .before .before .before .before .before .put-front .ensures in
-    let front = written-more _ _ _ _ _ _ _ _ place refl (words .is) in
-    let test = c .if1 .left in
-    line-plain 4 (args .hello .now) (args .number) (args .place) (lastRow (args .hello .now) (args .at)) _ (last-bytes (args .hello .now) (args .at))
-    (mark .result) (mark .ensures ∙ last-mark stop (args .hello .now) (args .at)) (words .parts) test front
+returns c = rw add-one at (c .before .before .put-line .ensures)
 
 pub put-end-spec : {M : Type 1} → statement M
 put-end-spec =
     tie.close
     (tie.spec
-    (λ c. search needs)  -- add-is-marked
-    (λ c κs. search needs)  -- is-marked-requires
-    (λ c. search needs)  -- sub-put-front
-    (λ c. search needs)  -- part-put-front-start
-    (λ c. search needs)  -- part-put-front-end
-    (λ c κs. search needs)  -- put-front-requires
-    (λ c. search needs)  -- sub-put-words
-    (λ c. search needs)  -- part-put-words-start
-    (λ c. search needs)  -- part-put-words-end
+    (λ c. search needs)  -- add-told
     (λ c κs. search needs)  -- last-what-requires
-    (λ c. search needs)  -- sub-put-words-2
-    (λ c. search needs)  -- part-put-words-start-2
-    (λ c. search needs)  -- part-put-words-end-2
-    (λ c κs. search needs)  -- put-words-requires
-    (λ c. search needs)  -- add-m
-    (λ c. search needs)  -- sub-put-reason
-    (λ c. search needs)  -- part-put-reason-start
-    (λ c. search needs)  -- part-put-reason-end
-    (λ c. search needs)  -- sub-put-reason-2
-    (λ c. search needs)  -- part-put-reason-start-2
-    (λ c. search needs)  -- part-put-reason-end-2
-    (λ c κs. search needs)  -- put-reason-requires
-    (λ c. search needs)  -- add-result
+    (λ c. search needs)  -- sub-told
+    (λ c. search needs)  -- part-told-start
+    (λ c. search needs)  -- part-told-end
+    (λ c κs. search needs)  -- told-requires
+    (λ c. search needs)  -- slice-aggregate-put-line
+    (λ c κs. search needs)  -- put-line-requires
     (λ c. search needs)  -- same-length
-    returns
-    (λ c. search needs)  -- same-length-2
-    returns-2)
+    returns)

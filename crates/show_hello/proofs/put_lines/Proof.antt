@@ -3,8 +3,8 @@ use Prim.Native.Nat.{_-_, _≤_, zero-le}
 use mathlib.Core.Path.{_≡_, refl}
 use lib.ListN.{length}
 use Rattle.show_lines.specs.Lines.{Ready}
-use Rattle.show_hello.specs.Text.{stopFrom}
-use Rattle.show_hello.proofs.LineLaws.{Going, going-none, going-more, going-ended}
+use Rattle.show_marks.specs.Text.{stopFrom}
+use Rattle.show_hello.proofs.TurnLaws.{Going, going-none, going-more, going-ended}
 use native.Mathlib.Omega.{arith}
 use borrow.Author.Needs.{needs}
 use Rattle.show_hello.proofs.put_lines.Statement.{statement}
@@ -28,8 +28,8 @@ loop-holds c =
 line-at-requires : tie.Need-line-at-requires Inv-loop μ-loop
 line-at-requires c κs = (omega (arith, (c .before .before .before .before .before .before .pre)), (c .before .before .loop) .inv .0, (c .if1) .taken)
 
-put-line-requires : tie.Need-put-line-requires Inv-loop μ-loop
-put-line-requires c κs = ((c .before .before .before .before .before .before .before .before .pre), (c .before .before .before .before .loop) .inv .0, (c .before .line-at) .ensures .1)
+put-row-requires : tie.Need-put-row-requires Inv-loop μ-loop
+put-row-requires c κs = ((c .before .before .before .before .loop) .inv .0, (c .before .line-at) .ensures .1)
 
 next-requires : tie.Need-next-requires Inv-loop μ-loop
 next-requires c κs =
@@ -42,7 +42,7 @@ loop-again c =
     let l = c .before .before .before .before .before .before .before .before .loop in
     let line = c .before .before .before .before .before .line-at in
     let after = c .next in
-    let w = (c .before .before .before .put-line) in (
+    let w = (c .before .before .before .put-row) in (
       after .ensures .1,
       search needs,
       search needs,
@@ -66,10 +66,10 @@ put-lines-spec =
     (λ c κs. search needs)  -- start-requires
     loop-holds
     line-at-requires
-    (λ c. search needs)  -- sub-put-line
-    (λ c. search needs)  -- part-put-line-start
-    (λ c. search needs)  -- part-put-line-end
-    put-line-requires
+    (λ c. search needs)  -- sub-put-row
+    (λ c. search needs)  -- part-put-row-start
+    (λ c. search needs)  -- part-put-row-end
+    put-row-requires
     (λ c. search needs)  -- add-used
     next-requires
     (λ c. search needs)  -- loop-less

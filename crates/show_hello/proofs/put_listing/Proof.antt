@@ -5,7 +5,7 @@ use mathlib.Core.List.{List, _++_, append-assoc}
 use Rattle.wire.specs.Numbers.{Bytes}
 use Rattle.script.proofs.AnswerLaws.{written-more}
 use Rattle.reports.proofs.PartLaws.{all-as}
-use Rattle.show_hello.specs.Text.{verdictParts, stopFrom}
+use Rattle.show_marks.specs.Text.{verdictParts, stopFrom}
 use Rattle.show_hello.proofs.WholeLaws.{lines-all}
 use borrow.Author.Needs.{needs}
 use Rattle.show_hello.proofs.put_listing.Statement.{statement}
@@ -21,7 +21,7 @@ returns c =
     let lines = c .before .before .before .before .before .before .put-lines .ensures in
     let last = c .before .before .put-end .ensures in
     let first = c .before .before .before .before .before .before .before .before .before .before .before .put-verdict .ensures in
-    let read = c .before .before .before .before .before .before .before .before .before .before .before .before .before .up-to-most in
+    let read = c .before .before .before .before .before .before .before .before .before .before .before .before .before .least in
     let two = written-more _ _ _ _ _ _ _ _ first refl (lines .is) in
     record {
       lines = lines .parts ++ last .parts;
@@ -33,7 +33,7 @@ pub put-listing-spec : {M : Type 1} → statement M
 put-listing-spec =
     tie.close
     (tie.spec
-    (λ c κs. search needs)  -- up-to-most-requires
+    (λ c κs. search needs)  -- least-requires
     (λ c κs. search needs)  -- put-verdict-requires
     (λ c. search needs)  -- sub-put-lines
     (λ c. search needs)  -- part-put-lines-start

@@ -1,6 +1,6 @@
 -- `put_suite` writes from the table of the definition: the two are equal by computing. Assumes nothing.
 use borrow.Author.Needs.{needs}
-use Rattle.registries.specs.Registry.{text, texts}
+use Rattle.registries.specs.Registry.{texts}
 use Rattle.registries.specs.Tables.{suites, suiteNames, suiteName}
 use Rattle.registries.proofs.suites.put_suite.Statement.{statement}
 use Rattle.registries.proofs.suites.put_suite.Tie as tie
@@ -18,7 +18,7 @@ same-length : tie.Need-same-length
 same-length c = search needs
 
 returns : tie.Need-returns
-unfolding suiteName suites suiteNames texts text
+unfolding suiteName suites suiteNames texts
 returns c = c .before .before .put-in .ensures
 
 pub put-suite-spec : {M : Type 1} → statement M

@@ -1,6 +1,6 @@
 -- `put_algorithm` writes from the table of the definition: the two are equal by computing. Assumes nothing.
 use borrow.Author.Needs.{needs}
-use Rattle.registries.specs.Registry.{text, texts}
+use Rattle.registries.specs.Registry.{texts}
 use Rattle.registries.specs.Tables.{algorithms, algorithmNames, algorithmName}
 use Rattle.registries.proofs.tables.put_algorithm.Statement.{statement}
 use Rattle.registries.proofs.tables.put_algorithm.Tie as tie
@@ -18,7 +18,7 @@ same-length : tie.Need-same-length
 same-length c = search needs
 
 returns : tie.Need-returns
-unfolding algorithmName algorithms algorithmNames texts text
+unfolding algorithmName algorithms algorithmNames texts
 returns c = c .before .before .put-in .ensures
 
 pub put-algorithm-spec : {M : Type 1} → statement M

@@ -1,6 +1,6 @@
 -- `put_group` writes from the table of the definition: the two are equal by computing. Assumes nothing.
 use borrow.Author.Needs.{needs}
-use Rattle.registries.specs.Registry.{text, texts}
+use Rattle.registries.specs.Registry.{texts}
 use Rattle.registries.specs.Tables.{groups, groupNames, groupName}
 use Rattle.registries.proofs.tables.put_group.Statement.{statement}
 use Rattle.registries.proofs.tables.put_group.Tie as tie
@@ -18,7 +18,7 @@ same-length : tie.Need-same-length
 same-length c = search needs
 
 returns : tie.Need-returns
-unfolding groupName groups groupNames texts text
+unfolding groupName groups groupNames texts
 returns c = c .before .before .put-in .ensures
 
 pub put-group-spec : {M : Type 1} → statement M

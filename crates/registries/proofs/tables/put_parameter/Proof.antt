@@ -1,6 +1,6 @@
 -- `put_parameter` writes from the table of the definition: the two are equal by computing. Assumes nothing.
 use borrow.Author.Needs.{needs}
-use Rattle.registries.specs.Registry.{text, texts}
+use Rattle.registries.specs.Registry.{texts}
 use Rattle.registries.specs.Tables.{parameters, parameterNames, parameterName}
 use Rattle.registries.proofs.tables.put_parameter.Statement.{statement}
 use Rattle.registries.proofs.tables.put_parameter.Tie as tie
@@ -18,7 +18,7 @@ same-length : tie.Need-same-length
 same-length c = search needs
 
 returns : tie.Need-returns
-unfolding parameterName parameters parameterNames texts text
+unfolding parameterName parameters parameterNames texts
 returns c = c .before .before .put-in .ensures
 
 pub put-parameter-spec : {M : Type 1} → statement M

@@ -1,6 +1,6 @@
 -- `put_type` writes from the table of the definition: the two are equal by computing. Assumes nothing.
 use borrow.Author.Needs.{needs}
-use Rattle.registries.specs.Registry.{text, texts}
+use Rattle.registries.specs.Registry.{texts}
 use Rattle.registries.specs.Tables.{types, typeNames, typeName}
 use Rattle.registries.proofs.tables.put_type.Statement.{statement}
 use Rattle.registries.proofs.tables.put_type.Tie as tie
@@ -18,7 +18,7 @@ same-length : tie.Need-same-length
 same-length c = search needs
 
 returns : tie.Need-returns
-unfolding typeName types typeNames texts text
+unfolding typeName types typeNames texts
 returns c = c .before .before .put-in .ensures
 
 pub put-type-spec : {M : Type 1} → statement M

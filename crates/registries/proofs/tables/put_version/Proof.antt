@@ -1,6 +1,6 @@
 -- `put_version` writes from the table of the definition: the two are equal by computing. Assumes nothing.
 use borrow.Author.Needs.{needs}
-use Rattle.registries.specs.Registry.{text, texts}
+use Rattle.registries.specs.Registry.{texts}
 use Rattle.registries.specs.Tables.{versions, versionNames, versionName}
 use Rattle.registries.proofs.tables.put_version.Statement.{statement}
 use Rattle.registries.proofs.tables.put_version.Tie as tie
@@ -18,7 +18,7 @@ same-length : tie.Need-same-length
 same-length c = search needs
 
 returns : tie.Need-returns
-unfolding versionName versions versionNames texts text
+unfolding versionName versions versionNames texts
 returns c = c .before .before .put-in .ensures
 
 pub put-version-spec : {M : Type 1} → statement M

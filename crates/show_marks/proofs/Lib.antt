@@ -1,0 +1,3 @@
+pub mod RunLaws
+-- the definitions alone
+pub mod MarkLaws
