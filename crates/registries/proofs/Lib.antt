@@ -1,1 +1,2 @@
 pub mod RegistryLaws
+pub mod Samples

@@ -1,3 +1,4 @@
 pub mod TurnLaws
 -- the definitions alone
 pub mod FrameLaws
+pub mod Samples

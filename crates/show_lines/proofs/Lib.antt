@@ -4,3 +4,4 @@ pub mod PartLaws
 pub mod LineLaws
 -- the code
 pub mod CodeLaws
+pub mod Samples

@@ -1,3 +1,4 @@
 pub mod RunLaws
 -- the definitions alone
 pub mod MarkLaws
+pub mod Samples
