@@ -4,8 +4,8 @@ use mathlib.Core.Path.{_≡_, refl, ap}
 use mathlib.Core.List.{List}
 use lib.ListN.{take, drop}
 use native.Mathlib.Omega.{arith}
-use Rattle.script.specs.Shown.{Written}
-use Rattle.script.specs.Answers.{WrittenAll}
+use Rattle.script_writing.specs.Shown.{Written}
+use Rattle.script_writing.specs.Answers.{WrittenAll}
 use Rattle.answers.specs.Said.{Says, Hands, plain, hands, number}
 use Rattle.answers.specs.declared.Said.the-variants as said
 

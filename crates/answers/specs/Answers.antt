@@ -10,8 +10,8 @@ use Rattle.fingerprint.specs.ClientHello.{ClientHello}
 use Rattle.fingerprint.specs.Report.{report}
 use Rattle.reports.specs.Lines.{reportText}
 use Rattle.script.specs.Scan.{space}
-use Rattle.script.specs.Decimal.{decimalText}
-use Rattle.script.specs.Shown.{shownText}
+use Rattle.script_writing.specs.Decimal.{decimalText}
+use Rattle.script_writing.specs.Shown.{shownText}
 use Rattle.answers.specs.Said.{Outcome, plain, hands, number}
 
 -- ---- The words

@@ -5,8 +5,8 @@ use mathlib.Core.List.{List}
 use lib.ListN.{length}
 use Rattle.wire.specs.Answer.{Answer, result, refused}
 use Rattle.wire.specs.Front.{front}
-use Rattle.script.specs.Shown.{fitted}
-use Rattle.script.specs.Answers.{fittedAll}
+use Rattle.script_writing.specs.Shown.{fitted}
+use Rattle.script_writing.specs.Answers.{fittedAll}
 use Rattle.answers.specs.declared.Said.{Said}
 use Rattle.answers.specs.declared.Said.the-variants as said
 

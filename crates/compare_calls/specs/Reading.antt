@@ -9,7 +9,7 @@ use lib.Dec.{leb}
 use Rattle.wire.specs.Answer.{Answer, result, refused}
 use Rattle.wire.specs.Front.{front}
 use Rattle.wire.specs.Stops.{Stopped}
-use Rattle.script.specs.Answers.{fittedAll}
+use Rattle.script_writing.specs.Answers.{fittedAll}
 use Rattle.fingerprint_lists.specs.Arrays.{extType, group, span}
 use Rattle.fingerprint.specs.ClientHello.{ClientHello}
 use Rattle.fingerprint.specs.declared.Fingerprint.{Fingerprint}

@@ -3,7 +3,7 @@
 ghost use Prim.Native.Nat.{_≤_};
 ghost use lib.ListN.{length};
 use libc::STDIN_FILENO;
-use script::writing::put_text;
+use script_writing::texts::put_text;
 
 // The script's descriptor, or -1 after saying on standard error what is wrong.
 fn open_script() -> i32 {

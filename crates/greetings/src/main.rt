@@ -6,7 +6,7 @@ ghost use lib.ListN.{length};
 use frames::cutting::Cut;
 use frames::cutting::write_frames;
 use libc::STDOUT_FILENO;
-use script::writing::put_two_numbers;
+use script_writing::texts::put_two_numbers;
 use third_demand::Outcome;
 use third_demand::two_greetings;
 use tls::Made;

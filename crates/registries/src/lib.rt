@@ -6,10 +6,10 @@ pub mod tables;
 ghost use mathlib.Core.Path.{_≡_};
 ghost use Prim.Native.Nat.{_≤_};
 ghost use lib.ListN.{length};
-ghost use Rattle.script.specs.Shown.{Written};
+ghost use Rattle.script_writing.specs.Shown.{Written};
 ghost use Rattle.registries.specs.Registry.{placeOf, nameIn};
 use script::words::word_at;
-use script::writing::put_text;
+use script_writing::texts::put_text;
 
 // The place of a number in a table; the table's length where it is not there.
 pub fn place_of(numbers: &[u64], v: u64) -> usize

@@ -1,5 +1,5 @@
 // The registry of cipher suites: numbers, and in the same order their names.
-ghost use Rattle.script.specs.Shown.{Written};
+ghost use Rattle.script_writing.specs.Shown.{Written};
 ghost use Rattle.registries.specs.Tables.{suiteName};
 use crate::put_in;
 

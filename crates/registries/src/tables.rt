@@ -1,5 +1,5 @@
 // The registries but for the suites: numbers, and in the same order their names.
-ghost use Rattle.script.specs.Shown.{Written};
+ghost use Rattle.script_writing.specs.Shown.{Written};
 ghost use Rattle.registries.specs.Tables.{groupName, algorithmName, typeName, versionName, parameterName};
 use crate::put_in;
 

@@ -1,4 +1,2 @@
-pub mod DigitLaws
 pub mod PartLaws
 pub mod ShowLaws
-pub mod NameLaws

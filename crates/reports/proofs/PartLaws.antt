@@ -6,13 +6,10 @@ use native.Mathlib.Numerals.{add-one}
 use lib.ListN.{length, take, getD}
 use lib.Seq.{take-suc}
 use borrow.Rule.Slice.PartMut.{midOf, putMid}
-use Rattle.script.specs.Shown.{Written}
-use Rattle.script.specs.Answers.{WrittenAll}
-use Rattle.script.proofs.AnswerLaws.{written-one, written-more}
+use Rattle.script_writing.specs.Shown.{Written}
+use Rattle.script_writing.specs.Answers.{WrittenAll}
+use Rattle.script_writing.proofs.AnswerLaws.{all-as, written-one, written-more}
 use Rattle.reports.specs.Lines.{each}
-
-pub all-as : (ts us : List (List ℕ)) (r : ℕ) (old new : List ℕ) → ts ≡ us → WrittenAll ts r old new → WrittenAll us r old new
-all-as ts us r old new e w = subst (λ (x : List (List ℕ)). WrittenAll x r old new) e w
 
 -- ---- a loop that writes parts after a label: whatever was written where it began, the label and these parts stand now
 

@@ -1,17 +1,14 @@
 -- The lines of a report, the answer of `name` and the answer of `set`, part by part, in the words of the script language.
 use Prim.Native.Nat.{ℕ, _+_}
-use mathlib.Core.Bool.{cond}
 use mathlib.Core.List.{List, [], _∷_, _++_, map}
 use mathlib.Core.Option.{Option, none, some}
 use lib.ListN.{length}
-use lib.Dec.{eqb}
-use Rattle.script.specs.Scan.{text, space, quote, dash, all}
-use Rattle.script.specs.Decimal.{decimalText}
-use Rattle.script.specs.Hex.{hexText}
-use Rattle.script.specs.Piece.{isPlain}
+use Rattle.script.specs.Scan.{text, space}
+use Rattle.script_writing.specs.Decimal.{decimalText}
+use Rattle.script_writing.specs.Hex.{wordText, idText}
+use Rattle.script_writing.specs.Names.{nameText}
 use Rattle.fingerprint_lists.specs.Arrays.{Part}
 use Rattle.fingerprint.specs.Report.{Report}
-use Rattle.reports.specs.Digits.{wordText, idText}
 
 -- ---- The words
 
@@ -58,14 +55,6 @@ abbrev pub nameWord : List ℕ
 nameWord = text "name "
 
 -- ---- Names
-
--- `"example.org"`
-unfoldable pub quoted : List ℕ → List ℕ
-quoted name = quote ∷ (name ++ (quote ∷ []))
-
--- "as text where they can be (every byte 33 to 126 and no `"`), else as plain hex"; "`-` for none"
-unfoldable pub nameText : List ℕ → List ℕ
-nameText name = cond (eqb (length name) 0) (dash ∷ []) (cond (all isPlain name) (quoted name) (hexText name))
 
 -- "`A..B` is the range of the hello that holds the name, from A up to but not including B"
 unfoldable pub rangeParts : ℕ → ℕ → List ℕ → List (List ℕ)

@@ -3,9 +3,8 @@
 // later bytes stay.
 pub mod lists; // 16-bit numbers, types, groups and ids, each a list after its label
 pub mod names; // names, and the ranges of the hello that hold them
-pub mod numbers; // a number in hex, after a space
 
-ghost use Rattle.script.specs.Answers.{WrittenAll};
+ghost use Rattle.script_writing.specs.Answers.{WrittenAll};
 ghost use Rattle.reports.specs.Lines.{nameAnswer};
 ghost use Rattle.reports.specs.Code.{firstParts, listParts, lastParts, reportParts, setParts};
 ghost use Rattle.fingerprint.specs.InRange.{Filled, Counts, Sane};
@@ -15,11 +14,11 @@ use lists::put_groups;
 use lists::put_ids;
 use lists::put_types;
 use lists::put_words;
-use names::put_name;
 use names::put_protocols;
 use names::put_sni;
-use script::writing::put_number;
-use script::writing::put_text;
+use script_writing::names::put_name;
+use script_writing::texts::put_number;
+use script_writing::texts::put_text;
 
 // The lines of what stands before the extensions, and of their types.
 fn put_first_lines(out: &mut [u8], report: Fingerprint) -> usize

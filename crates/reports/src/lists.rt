@@ -2,14 +2,14 @@
 ghost use mathlib.Core.List.{_∷_, map};
 ghost use Prim.Native.Nat.{_≤_};
 ghost use lib.ListN.{length, take};
-ghost use Rattle.script.specs.Answers.{WrittenAll};
-ghost use Rattle.reports.specs.Digits.{wordText, idText};
+ghost use Rattle.script_writing.specs.Answers.{WrittenAll};
+ghost use Rattle.script_writing.specs.Hex.{wordText, idText};
 ghost use Rattle.fingerprint.specs.InRange.{typeNumbers, groupNumbers, Filled};
-use crate::numbers::put_id;
-use crate::numbers::put_word;
 use profiles::ExtType;
 use profiles::Group;
-use script::writing::put_text;
+use script_writing::numbers::put_id;
+use script_writing::numbers::put_word;
+use script_writing::texts::put_text;
 
 // Writes the first `count` of 16-bit numbers.
 pub fn put_words(out: &mut [u8], label: &[u8], items: &[u16], count: usize) -> usize

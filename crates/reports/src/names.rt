@@ -1,49 +1,17 @@
-// Names: as text where they can be, else as plain hex; in a report with the range of the hello that holds them.
+// Names, each with the range of the hello that holds it.
 ghost use mathlib.Core.List.{[], _∷_};
 ghost use lib.ListN.{take};
 ghost use Rattle.script.specs.Scan.{space};
-ghost use Rattle.script.specs.Shown.{Written};
-ghost use Rattle.script.specs.Answers.{WrittenAll};
-ghost use Rattle.reports.specs.Lines.{quoted, nameText, each, alpnLabel, nameLabel};
+ghost use Rattle.script_writing.specs.Answers.{WrittenAll};
+ghost use Rattle.script_writing.specs.Names.{nameText};
+ghost use Rattle.reports.specs.Lines.{each, alpnLabel, nameLabel};
 ghost use Rattle.reports.specs.Code.{spanParts, sniParts};
 ghost use Rattle.fingerprint.specs.InRange.{Filled, Inside, SpansInside, SniInside};
 use fingerprint::Sni;
 use fingerprint_lists::Span;
-use script::reading::all_plain;
-use script::writing::put_hex;
-use script::writing::put_text;
-use script::writing::put_two_numbers;
-
-// Writes a name between quotes.
-fn put_quoted(out: &mut [u8], name: &[u8]) -> usize
-    ensures { λ r. ⌜ Written (quoted (now (name .entry))) r (now (out .entry)) (now (out .exit)) ⌝ }
-{
-    let n = name.len();
-    if out.len() < 2 {
-        return 0;
-    }
-    if out.len() - 2 < n {
-        return 0;
-    }
-    wire::put_bytes(out, b"\"");
-    wire::put_bytes(&mut out[1..], name);
-    wire::put_bytes(&mut out[n + 1..], b"\"");
-    n + 2
-}
-
-// Writes a name.
-pub fn put_name(out: &mut [u8], name: &[u8]) -> usize
-    ensures { λ r. ⌜ Written (nameText (now (name .entry))) r (now (out .entry)) (now (out .exit)) ⌝ }
-{
-    if name.len() == 0 {
-        return put_text(out, b"-");
-    }
-    if all_plain(name) {
-        put_quoted(out, name)
-    } else {
-        put_hex(out, name)
-    }
-}
+use script_writing::names::put_name;
+use script_writing::texts::put_text;
+use script_writing::texts::put_two_numbers;
 
 // Writes a space and a name.
 fn put_spaced_name(out: &mut [u8], name: &[u8]) -> usize

@@ -2,10 +2,6 @@ pub mod ScanLaws
 pub mod DecimalLaws
 pub mod HexLaws
 pub mod PieceLaws
-pub mod ShownLaws
-pub mod AnswerLaws
-pub mod ReadBack
-pub mod ShownBack
 pub mod Samples
 pub mod WordLaws
 pub mod InputLaws

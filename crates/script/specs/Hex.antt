@@ -1,7 +1,7 @@
 -- Bytes in hex, two digits a byte.
-use Prim.Native.Nat.{ℕ, _+_, _*_, _-_, _/_, _%_}
+use Prim.Native.Nat.{ℕ, _+_, _*_, _-_}
 use mathlib.Core.Bool.{Bool, cond}
-use mathlib.Core.List.{List, [], _∷_, _++_}
+use mathlib.Core.List.{List, [], _∷_}
 use lib.Dec.{ltb}
 use Rattle.script.specs.Scan.{among}
 
@@ -25,15 +25,3 @@ unfoldable pub pairs : List ℕ → List ℕ
 pairs [] = []
 pairs (a ∷ []) = []
 pairs (a ∷ b ∷ s) = hexByte a b ∷ pairs s
-
--- the digit of a value below 16, lower case
-unfoldable pub hexLetter : ℕ → ℕ
-hexLetter v = cond (ltb v 10) (v + 48) (v + 87)
-
-unfoldable pub hexPair : ℕ → List ℕ
-hexPair b = hexLetter (b / 16) ∷ hexLetter (b % 16) ∷ []
-
--- bytes as "lower-case hex"
-unfoldable pub hexText : List ℕ → List ℕ
-hexText [] = []
-hexText (b ∷ s) = hexPair b ++ hexText s

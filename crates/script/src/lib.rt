@@ -3,4 +3,3 @@
 pub mod input; // the lines of a script, gathered from what is read chunk by chunk
 pub mod reading; // numbers and the pieces of byte operands
 pub mod words; // the words of a line
-pub mod writing; // numbers and bytes as an answer shows them

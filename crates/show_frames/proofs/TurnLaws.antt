@@ -9,8 +9,8 @@ use borrow.Rule.Slice.PartMut.{midOf, putMid}
 use lib.ListN.{length, take, drop, length-drop, drop-of-length-le}
 use lib.Seq.{take-at, drop-drop}
 use Rattle.wire.proofs.ListLaws.{length-part-to-end}
-use Rattle.script.specs.Answers.{WrittenAll}
-use Rattle.script.proofs.AnswerLaws.{written-more}
+use Rattle.script_writing.specs.Answers.{WrittenAll}
+use Rattle.script_writing.proofs.AnswerLaws.{written-more}
 use Rattle.wire.specs.Stops.{Stopped}
 use Rattle.show_lines.specs.Lines.{Row, row}
 use Rattle.show_marks.specs.Text.{lastRow, verdictParts, LinesParts}

@@ -8,7 +8,7 @@ use mathlib.Core.Option.{Option}
 use lib.ListN.{length, take, drop}
 use lib.Dec.{eqb}
 use Rattle.wire.specs.Answer.{Answer, result, refused}
-use Rattle.script.specs.Answers.{WrittenAll}
+use Rattle.script_writing.specs.Answers.{WrittenAll}
 use Rattle.wire.specs.Stops.{Stopped}
 use Rattle.frames.specs.Read.{Shape, padding, ping, crypto, readFrame}
 use Rattle.show_lines.specs.Lines.{Row, row}

@@ -8,8 +8,8 @@ use borrow.Author.Tests.{lt-ltb, le-ltb}
 use borrow.Rule.Slice.PartMut.{midOf, putMid}
 use lib.ListN.{length}
 use Rattle.wire.specs.Stops.{Stopped}
-use Rattle.script.specs.Answers.{WrittenAll}
-use Rattle.script.proofs.AnswerLaws.{written-more}
+use Rattle.script_writing.specs.Answers.{WrittenAll}
+use Rattle.script_writing.proofs.AnswerLaws.{written-more}
 use Rattle.show_lines.specs.declared.cursor.Cursor.{Cursor}
 use Rattle.show_lines.specs.declared.cursor.Line.{Line}
 use Rattle.show_lines.specs.Lines.{Row, row, lineAt, next, start, listed}

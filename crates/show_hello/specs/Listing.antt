@@ -4,7 +4,7 @@ use mathlib.Core.List.{List, [], _∷_, _++_}
 use mathlib.Core.Option.{Option}
 use lib.ListN.{length, take}
 use Rattle.wire.specs.Stops.{Stopped}
-use Rattle.script.specs.Answers.{WrittenAll}
+use Rattle.script_writing.specs.Answers.{WrittenAll}
 use Rattle.show_lines.specs.Lines.{Row, start, listed, most, rows}
 use Rattle.show_marks.specs.Text.{lastRow, LinesParts, verdictParts}
 

@@ -7,10 +7,11 @@ use Prim.Native.Nat.{ℕ}
 use Rattle.wire.specs.Numbers.{digits}
 use Rattle.wire.specs.Stops.{stopped}
 use Rattle.script.specs.Scan.{text}
-use Rattle.script.specs.Decimal.{places, decimalWidth, decimalDigits, decimalText}
-use Rattle.script.specs.Hex.{hexLetter, hexPair, hexText}
-use Rattle.script.proofs.AnswerLaws.{joined}
-use Rattle.reports.specs.Digits.{hexDigits}
+use Rattle.script_writing.specs.Digits.{places}
+use Rattle.script_writing.specs.Decimal.{decimalWidth, decimalDigits, decimalText}
+use Rattle.script_writing.specs.Hex.{hexLetter, hexPair, hexText}
+use Rattle.script_writing.proofs.AnswerLaws.{joined}
+use Rattle.script_writing.specs.Hex.{hexDigits}
 use Rattle.show_lines.specs.Lines.{row}
 use Rattle.show_marks.specs.Text.{stopFrom, marks, placeParts, blanks, filling, shortParts, countParts, runParts, frontParts, verdictParts}
 

@@ -9,9 +9,9 @@ use lib.ListN.{length, take, drop, replicate}
 use lib.Dec.{eqb, leb, ltb}
 use Rattle.wire.specs.Sums.{indicator, total}
 use Rattle.script.specs.Scan.{text, space}
-use Rattle.script.specs.Decimal.{decimalText}
-use Rattle.script.specs.Hex.{hexText}
-use Rattle.reports.specs.Digits.{hexDigits}
+use Rattle.script_writing.specs.Decimal.{decimalText}
+use Rattle.script_writing.specs.Hex.{hexText}
+use Rattle.script_writing.specs.Hex.{hexDigits}
 use Rattle.wire.specs.Stops.{Stopped, stopped}
 use Rattle.show_lines.specs.Lines.{Row, row, holds}
 

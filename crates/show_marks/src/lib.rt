@@ -3,16 +3,16 @@
 ghost use Prim.Native.Nat.{_≤_, min};
 ghost use mathlib.Core.Path.{_≡_};
 ghost use lib.ListN.{length};
-ghost use Rattle.script.specs.Shown.{Written};
-ghost use Rattle.script.specs.Answers.{WrittenAll};
+ghost use Rattle.script_writing.specs.Shown.{Written};
+ghost use Rattle.script_writing.specs.Answers.{WrittenAll};
 ghost use Rattle.show_marks.specs.Text as specs;
 ghost use Rattle.show_lines.specs.Lines.{row};
 ghost use Rattle.show_marks.specs.Text.{marks, stopFrom, blanks, markText, placeParts, shortParts, countParts, runParts};
 ghost use Rattle.show_marks.specs.Text.{frontParts, verdictParts};
-use reports::numbers::put_digits;
-use script::writing::put_hex;
-use script::writing::put_number;
-use script::writing::put_text;
+use script_writing::numbers::put_digits;
+use script_writing::bytes::put_hex;
+use script_writing::texts::put_number;
+use script_writing::texts::put_text;
 
 const BLANKS: [u8; 24] = [b' '; 24];
 

@@ -11,8 +11,8 @@ use lib.Seq.{take-all}
 use lib.Dec.{eqb}
 use Rattle.wire.specs.Stops.{Stopped, stopped}
 use Rattle.wire.proofs.ListLaws.{lt-or-le}
-use Rattle.script.specs.Decimal.{decimalText}
-use Rattle.script.specs.Answers.{WrittenAll}
+use Rattle.script_writing.specs.Decimal.{decimalText}
+use Rattle.script_writing.specs.Answers.{WrittenAll}
 use Rattle.script.specs.Scan.{text}
 use Rattle.show_lines.specs.Lines.{Row, row}
 use Rattle.show_marks.specs.Text.{marks, frontParts, reasonParts, bytesOf, stopFrom, LineParts, LinesParts}

@@ -5,9 +5,9 @@ use mathlib.Core.List.{List, [], _∷_, _++_}
 use lib.ListN.{length}
 use borrow.Rule.Slice.PartMut.{midOf, putMid}
 use Rattle.wire.proofs.FrontLaws.{front-none}
-use Rattle.script.specs.Shown.{Written}
-use Rattle.script.specs.Answers.{fittedAll, WrittenAll}
-use Rattle.script.proofs.AnswerLaws.{written-one, written-more}
+use Rattle.script_writing.specs.Shown.{Written}
+use Rattle.script_writing.specs.Answers.{fittedAll, WrittenAll}
+use Rattle.script_writing.proofs.AnswerLaws.{written-one, written-more}
 use Rattle.show_words.specs.Code.{Wrote}
 
 pub wrote-text : {t : List ℕ} {r : ℕ} {old new : List ℕ} → Written t r old new → Wrote r old new

@@ -3,8 +3,8 @@ use Prim.Native.Nat.{ℕ}
 use mathlib.Core.List.{List, _∷_}
 use mathlib.Core.Option.{Option}
 use Rattle.wire.specs.Stops.{Stopped}
-use Rattle.script.specs.Decimal.{decimalText}
-use Rattle.script.specs.Answers.{WrittenAll}
+use Rattle.script_writing.specs.Decimal.{decimalText}
+use Rattle.script_writing.specs.Answers.{WrittenAll}
 use Rattle.script.specs.Scan.{text}
 use Rattle.show_lines.specs.Lines.{Row}
 use Rattle.show_marks.specs.Text.{LineParts, LinesParts}

@@ -2,7 +2,7 @@
 use mathlib.Core.Path.{sym, _∙_}
 use mathlib.Core.List.{[], _∷_}
 use denote.Ref.{now}
-use Rattle.script.proofs.AnswerLaws.{written-one}
+use Rattle.script_writing.proofs.AnswerLaws.{written-one}
 use Rattle.answers.specs.Answers.{yesWord, noWord}
 use Rattle.answers.proofs.AnswerLaws.{says-result}
 use borrow.Author.Needs.{needs}

@@ -5,7 +5,7 @@ use denote.Ref.{now}
 use Rattle.wire.specs.Answer.{result, refused}
 use Rattle.varint.specs.Varint.{readOf}
 use Rattle.script.specs.Scan.{space}
-use Rattle.script.specs.Decimal.{decimalText}
+use Rattle.script_writing.specs.Decimal.{decimalText}
 use Rattle.answers.specs.Answers.{widthWord, valueWord, refusedWord}
 use Rattle.answers.proofs.AnswerLaws.{says-result, says-refused}
 use borrow.Author.Needs.{needs}

@@ -4,7 +4,7 @@ use mathlib.Core.List.{[], _∷_}
 use denote.Ref.{now}
 use Rattle.wire.specs.Answer.{result, refused}
 use Rattle.varint.specs.Varint.{sizeOf}
-use Rattle.script.specs.Decimal.{decimalText}
+use Rattle.script_writing.specs.Decimal.{decimalText}
 use Rattle.answers.specs.Answers.{widthWord, refusedWord}
 use Rattle.answers.proofs.AnswerLaws.{says-result, says-refused}
 use borrow.Author.Needs.{needs}

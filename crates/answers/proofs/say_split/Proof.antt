@@ -5,9 +5,9 @@ use denote.Ref.{now}
 use Rattle.wire.specs.Answer.{result, refused}
 use Rattle.records.specs.Records.{record-to, end, recordAt}
 use Rattle.script.specs.Scan.{space}
-use Rattle.script.specs.Decimal.{decimalText}
-use Rattle.script.specs.Shown.{shownText}
-use Rattle.script.proofs.AnswerLaws.{written-one}
+use Rattle.script_writing.specs.Decimal.{decimalText}
+use Rattle.script_writing.specs.Shown.{shownText}
+use Rattle.script_writing.proofs.AnswerLaws.{written-one}
 use Rattle.answers.specs.Answers.{recordWord, nextWord, endWord, refusedWord}
 use Rattle.answers.proofs.AnswerLaws.{hands-nothing, hands-refused, hands-back}
 use borrow.Author.Needs.{needs}

@@ -6,8 +6,8 @@ use lib.ListN.{length}
 use Rattle.wire.specs.Answer.{result, refused}
 use Rattle.varint.specs.Varint.{writeOf}
 use Rattle.script.specs.Scan.{space}
-use Rattle.script.specs.Decimal.{decimalText}
-use Rattle.script.specs.Shown.{shownText}
+use Rattle.script_writing.specs.Decimal.{decimalText}
+use Rattle.script_writing.specs.Shown.{shownText}
 use Rattle.answers.specs.Answers.{widthWord, refusedWord}
 use Rattle.answers.proofs.AnswerLaws.{says-result, says-refused}
 use borrow.Author.Needs.{needs}

@@ -3,9 +3,9 @@ use Prim.Native.Nat.{ℕ, _+_}
 use mathlib.Core.Path.{refl}
 use mathlib.Core.List.{List, [], _∷_, _++_, map}
 use lib.ListN.{take}
-use Rattle.script.specs.Decimal.{decimalText}
-use Rattle.script.proofs.AnswerLaws.{written-more}
-use Rattle.reports.specs.Digits.{wordText}
+use Rattle.script_writing.specs.Decimal.{decimalText}
+use Rattle.script_writing.proofs.AnswerLaws.{written-more}
+use Rattle.script_writing.specs.Hex.{wordText}
 use Rattle.reports.specs.Lines.{sessionLabel, suitesLabel, extensionsLabel, firstLines}
 use Rattle.fingerprint.specs.InRange.{typeNumbers}
 use native.Mathlib.Omega.{arith}

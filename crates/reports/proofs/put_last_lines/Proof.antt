@@ -3,11 +3,10 @@ use Prim.Native.Nat.{ℕ, _+_}
 use mathlib.Core.Path.{refl}
 use mathlib.Core.List.{List, _∷_, _++_, map, append-assoc}
 use lib.ListN.{take}
-use Rattle.script.proofs.AnswerLaws.{written-more}
-use Rattle.reports.specs.Digits.{idText}
+use Rattle.script_writing.proofs.AnswerLaws.{all-as, written-more}
+use Rattle.script_writing.specs.Hex.{idText}
 use Rattle.reports.specs.Lines.{each, alpnLabel, nameLabel, parametersLabel, lastLines}
 use Rattle.reports.specs.Code.{spanParts, sniParts}
-use Rattle.reports.proofs.PartLaws.{all-as}
 use native.Mathlib.Omega.{arith}
 use borrow.Author.Needs.{needs}
 use Rattle.reports.proofs.put_last_lines.Statement.{statement}

@@ -3,11 +3,10 @@ use Prim.Native.Nat.{ℕ, _+_}
 use mathlib.Core.Path.{refl, _∙_}
 use mathlib.Core.List.{List, _∷_, _++_, map, append-assoc}
 use lib.ListN.{take}
-use Rattle.script.proofs.AnswerLaws.{written-more}
-use Rattle.reports.specs.Digits.{wordText}
+use Rattle.script_writing.proofs.AnswerLaws.{all-as, written-more}
+use Rattle.script_writing.specs.Hex.{wordText}
 use Rattle.reports.specs.Lines.{groupsLabel, sharesLabel, algorithmsLabel, versionsLabel, listLines}
 use Rattle.fingerprint.specs.InRange.{groupNumbers}
-use Rattle.reports.proofs.PartLaws.{all-as}
 use native.Mathlib.Omega.{arith}
 use borrow.Author.Needs.{needs}
 use Rattle.reports.proofs.put_list_lines.Statement.{statement}

@@ -1,9 +1,9 @@
 -- `reports::put_name_answer` meets its contract: two parts are written, the second after the first. Assumes nothing.
 use mathlib.Core.Path.{refl}
 use mathlib.Core.List.{[], _∷_}
-use denote.Ref.{now}
-use Rattle.script.proofs.AnswerLaws.{written-one, written-more}
-use Rattle.reports.specs.Lines.{nameWord, nameText, nameAnswer}
+use Rattle.script_writing.proofs.AnswerLaws.{written-one, written-more}
+use Rattle.reports.specs.Lines.{nameWord, nameAnswer}
+use Rattle.script_writing.specs.Names.{nameText}
 use borrow.Author.Needs.{needs}
 use Rattle.reports.proofs.put_name_answer.Statement.{statement}
 use Rattle.reports.proofs.put_name_answer.Tie as tie

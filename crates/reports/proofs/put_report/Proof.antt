@@ -2,9 +2,8 @@
 use Prim.Native.Nat.{ℕ, _+_}
 use mathlib.Core.Path.{refl}
 use mathlib.Core.List.{List, _++_, append-assoc}
-use Rattle.script.proofs.AnswerLaws.{written-more}
+use Rattle.script_writing.proofs.AnswerLaws.{all-as, written-more}
 use Rattle.reports.specs.Code.{firstParts, listParts, lastParts, reportParts}
-use Rattle.reports.proofs.PartLaws.{all-as}
 use borrow.Author.Needs.{needs}
 use Rattle.reports.proofs.put_report.Statement.{statement}
 use Rattle.reports.proofs.put_report.Tie as tie

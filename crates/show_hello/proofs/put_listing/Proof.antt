@@ -3,8 +3,8 @@ use Prim.Native.Nat.{ℕ}
 use mathlib.Core.Path.{refl}
 use mathlib.Core.List.{List, _++_, append-assoc}
 use Rattle.wire.specs.Numbers.{Bytes}
-use Rattle.script.proofs.AnswerLaws.{written-more}
-use Rattle.reports.proofs.PartLaws.{all-as}
+use Rattle.script_writing.proofs.AnswerLaws.{written-more}
+use Rattle.script_writing.proofs.AnswerLaws.{all-as}
 use Rattle.show_marks.specs.Text.{verdictParts, stopFrom}
 use Rattle.show_hello.proofs.WholeLaws.{lines-all}
 use borrow.Author.Needs.{needs}

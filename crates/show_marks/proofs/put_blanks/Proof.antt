@@ -3,7 +3,7 @@ use Prim.Native.Nat.{ℕ, _-_, min}
 use mathlib.Core.Path.{_≡_, ap, _∙_}
 use lib.ListN.{replicate}
 use Rattle.script.specs.Scan.{space}
-use Rattle.script.proofs.ShownLaws.{written-as}
+use Rattle.script_writing.proofs.ShownLaws.{written-as}
 use Rattle.show_marks.specs.Text.{blanks}
 use Rattle.show_marks.proofs.RunLaws.{take-replicate}
 use native.Mathlib.Omega.{arith}

@@ -1,6 +1,6 @@
 -- `show_marks::put_count` meets its contract: the length is written between brackets, and blanks after it. Assumes nothing.
 use mathlib.Core.Path.{refl}
-use Rattle.script.proofs.AnswerLaws.{written-one, written-more}
+use Rattle.script_writing.proofs.AnswerLaws.{written-one, written-more}
 use Rattle.show_marks.specs.Text.{countParts}
 use borrow.Author.Needs.{needs}
 use Rattle.show_marks.proofs.put_count.Statement.{statement}

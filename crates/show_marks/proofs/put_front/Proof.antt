@@ -1,6 +1,6 @@
 -- `show_marks::put_front` meets its contract: the bytes are written after the place. Assumes nothing.
 use mathlib.Core.Path.{refl}
-use Rattle.script.proofs.AnswerLaws.{written-more}
+use Rattle.script_writing.proofs.AnswerLaws.{written-more}
 use borrow.Author.Needs.{needs}
 use Rattle.show_marks.proofs.put_front.Statement.{statement}
 use Rattle.show_marks.proofs.put_front.Tie as tie

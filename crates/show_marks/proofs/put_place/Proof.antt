@@ -1,6 +1,6 @@
 -- `show_marks::put_place` meets its contract: the place is written after the mark. Assumes nothing.
 use mathlib.Core.Path.{refl}
-use Rattle.script.proofs.AnswerLaws.{written-one, written-more}
+use Rattle.script_writing.proofs.AnswerLaws.{written-one, written-more}
 use Rattle.show_marks.specs.Text.{placeParts}
 use borrow.Author.Needs.{needs}
 use Rattle.show_marks.proofs.put_place.Statement.{statement}

@@ -1,7 +1,7 @@
 -- `show_marks::put_run` meets its contract: the bytes, or the first six and their number. Assumes nothing.
 use mathlib.Core.Path.{refl}
 use borrow.Author.Tests.{le-leb, lt-leb}
-use Rattle.script.proofs.AnswerLaws.{written-one, written-more}
+use Rattle.script_writing.proofs.AnswerLaws.{written-one, written-more}
 use Rattle.show_marks.specs.Text.{runParts}
 use borrow.Author.Needs.{needs}
 use Rattle.show_marks.proofs.put_run.Statement.{statement}

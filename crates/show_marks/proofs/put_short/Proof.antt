@@ -1,6 +1,6 @@
 -- `show_marks::put_short` meets its contract: blanks, bytes and blanks are written one after the other. Assumes nothing.
 use mathlib.Core.Path.{refl}
-use Rattle.script.proofs.AnswerLaws.{written-one, written-more}
+use Rattle.script_writing.proofs.AnswerLaws.{written-one, written-more}
 use Rattle.show_marks.specs.Text.{shortParts}
 use borrow.Author.Needs.{needs}
 use Rattle.show_marks.proofs.put_short.Statement.{statement}

@@ -1,7 +1,7 @@
 -- `show_marks::put_verdict` meets its contract: one text is written after the other. Assumes nothing.
 use mathlib.Core.Path.{refl}
 use borrow.Author.Tests.{eq-eqb, ne-eqb}
-use Rattle.script.proofs.AnswerLaws.{written-one, written-more}
+use Rattle.script_writing.proofs.AnswerLaws.{written-one, written-more}
 use borrow.Author.Needs.{needs}
 use Rattle.show_marks.proofs.put_verdict.Statement.{statement}
 use Rattle.show_marks.proofs.put_verdict.Tie as tie

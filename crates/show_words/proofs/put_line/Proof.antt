@@ -1,6 +1,6 @@
 -- `put_line` meets its contract: place, bytes, words and, where it is marked, the reason, one after the other. Assumes nothing.
 use mathlib.Core.Path.{refl, _∙_}
-use Rattle.script.proofs.AnswerLaws.{written-more}
+use Rattle.script_writing.proofs.AnswerLaws.{written-more}
 use Rattle.show_lines.specs.Lines.{row}
 use Rattle.show_marks.specs.Text.{stopFrom}
 use Rattle.show_words.proofs.LineLaws.{marks-any, least-bytes, line-plain, line-marked}

@@ -1,6 +1,6 @@
 -- `put_reason` meets its contract: the number and the words are written one after the other. Assumes nothing.
 use mathlib.Core.Path.{refl}
-use Rattle.script.proofs.AnswerLaws.{written-one, written-more}
+use Rattle.script_writing.proofs.AnswerLaws.{written-one, written-more}
 use borrow.Author.Needs.{needs}
 use Rattle.show_words.proofs.put_reason.Statement.{statement}
 use Rattle.show_words.proofs.put_reason.Tie as tie

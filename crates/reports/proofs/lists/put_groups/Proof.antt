@@ -3,10 +3,11 @@ use Prim.Native.Nat.{ℕ, _-_, _≤_, _<_, zero-le}
 use mathlib.Core.Path.{_≡_, refl, sym, ap}
 use mathlib.Core.List.{List, _∷_, map, map-map}
 use lib.ListN.{length, take}
-use Rattle.reports.specs.Digits.{wordText}
+use Rattle.script_writing.specs.Hex.{wordText}
 use Rattle.fingerprint_lists.specs.Arrays.{group}
 use Rattle.fingerprint.specs.InRange.{groupNumber, groupNumbers}
-use Rattle.reports.proofs.PartLaws.{Grown, grown-none, grown-one, all-as}
+use Rattle.reports.proofs.PartLaws.{Grown, grown-none, grown-one}
+use Rattle.script_writing.proofs.AnswerLaws.{all-as}
 use borrow.Author.Needs.{needs}
 use native.Mathlib.Omega.{arith}
 use Rattle.reports.proofs.lists.put_groups.Statement.{statement}

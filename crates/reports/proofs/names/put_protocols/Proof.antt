@@ -6,7 +6,8 @@ use lib.ListN.{length, take}
 use Rattle.fingerprint_lists.specs.Arrays.{span}
 use Rattle.reports.specs.Lines.{each, alpnLabel}
 use Rattle.reports.specs.Code.{spanParts}
-use Rattle.reports.proofs.PartLaws.{Grown, grown-none, grown-some, all-as}
+use Rattle.reports.proofs.PartLaws.{Grown, grown-none, grown-some}
+use Rattle.script_writing.proofs.AnswerLaws.{all-as}
 use borrow.Author.Needs.{needs}
 use native.Mathlib.Omega.{arith}
 use Rattle.reports.proofs.names.put_protocols.Statement.{statement}

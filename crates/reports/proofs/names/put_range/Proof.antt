@@ -3,13 +3,12 @@ use Prim.Native.Nat.{ℕ, _+_, _-_}
 use mathlib.Core.Path.{_≡_, refl, ap}
 use mathlib.Core.List.{List, [], _∷_, _++_}
 use lib.ListN.{take, drop}
-use denote.Ref.{now}
 use Rattle.script.specs.Scan.{space}
-use Rattle.script.specs.Decimal.{decimalText}
-use Rattle.script.proofs.AnswerLaws.{written-more}
-use Rattle.reports.specs.Lines.{dots, nameText, rangeParts}
+use Rattle.script_writing.specs.Decimal.{decimalText}
+use Rattle.script_writing.proofs.AnswerLaws.{all-as, written-more}
+use Rattle.reports.specs.Lines.{dots, rangeParts}
+use Rattle.script_writing.specs.Names.{nameText}
 use Rattle.reports.specs.Code.{spanParts}
-use Rattle.reports.proofs.PartLaws.{all-as}
 use native.Mathlib.Omega.{arith}
 use borrow.Author.Needs.{needs}
 use Rattle.reports.proofs.names.put_range.Statement.{statement}

@@ -2,11 +2,10 @@
 use mathlib.Core.Path.{refl, sym, ap, subst}
 use mathlib.Core.List.{[], _∷_}
 use Rattle.fingerprint.specs.declared.Sni.{Sni}
-use Rattle.script.proofs.AnswerLaws.{written-one, written-more}
+use Rattle.script_writing.proofs.AnswerLaws.{all-as, written-one, written-more}
 use Rattle.reports.specs.Lines.{nameLabel, noneWord}
 use Rattle.fingerprint.specs.InRange.{SniInside}
 use Rattle.reports.specs.Code.{spanParts, sniParts}
-use Rattle.reports.proofs.PartLaws.{all-as}
 use borrow.Author.Needs.{needs}
 use Rattle.reports.proofs.names.put_sni.Statement.{statement}
 use Rattle.reports.proofs.names.put_sni.Tie as tie

@@ -1,10 +1,9 @@
 -- `reports::names::put_spaced_name` meets its contract: two parts are written, the second after the first. Assumes nothing.
 use mathlib.Core.Path.{refl}
 use mathlib.Core.List.{[], _∷_}
-use denote.Ref.{now}
 use Rattle.script.specs.Scan.{space}
-use Rattle.script.proofs.AnswerLaws.{written-one, written-more}
-use Rattle.reports.specs.Lines.{nameText}
+use Rattle.script_writing.proofs.AnswerLaws.{written-one, written-more}
+use Rattle.script_writing.specs.Names.{nameText}
 use borrow.Author.Needs.{needs}
 use Rattle.reports.proofs.names.put_spaced_name.Statement.{statement}
 use Rattle.reports.proofs.names.put_spaced_name.Tie as tie
