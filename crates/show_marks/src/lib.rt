@@ -9,8 +9,8 @@ ghost use Rattle.show_marks.specs.Text as specs;
 ghost use Rattle.show_lines.specs.Lines.{row};
 ghost use Rattle.show_marks.specs.Text.{marks, stopFrom, blanks, markText, placeParts, shortParts, countParts, runParts};
 ghost use Rattle.show_marks.specs.Text.{frontParts, verdictParts};
-use script_writing::numbers::put_digits;
 use script_writing::bytes::put_hex;
+use script_writing::numbers::put_digits;
 use script_writing::texts::put_number;
 use script_writing::texts::put_text;
 
