@@ -1,4 +1,4 @@
-//! The questions on joining in the sample that crates/replay runs: lists without overlap and without gaps, which the
+//! The questions on joining in the sample that crates/test_scripts runs: lists without overlap and without gaps, which the
 //! original joins as document 01 does.
 
 use super::crypto;

@@ -1,4 +1,4 @@
-//! The hellos in the sample that crates/replay runs: each profile on tapes of zeros and ones, which a script writes shortly,
+//! The hellos in the sample that crates/test_scripts runs: each profile on tapes of zeros and ones, which a script writes shortly,
 //! and on a few random ones.
 
 use super::question::{Fill, Question, TABLE};

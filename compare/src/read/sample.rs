@@ -1,4 +1,4 @@
-//! The hellos in the sample that crates/replay runs, short ones for the most part. The original gives no ranges: they are
+//! The hellos in the sample that crates/test_scripts runs, short ones for the most part. The original gives no ranges: they are
 //! those of the driver's own reader, whose report must be the original's in all else.
 
 use super::question::types;

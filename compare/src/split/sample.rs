@@ -1,4 +1,4 @@
-//! The questions on splitting in the sample that crates/replay runs.
+//! The questions on splitting in the sample that crates/test_scripts runs.
 
 use super::question::Question;
 use super::{in_order, short, whole, CUT};

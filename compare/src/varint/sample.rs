@@ -1,4 +1,4 @@
-//! The questions on varints in the sample that crates/replay runs. Each is one that the original itself answers, so no
+//! The questions on varints in the sample that crates/test_scripts runs. Each is one that the original itself answers, so no
 //! output is too short.
 
 use super::question::Question;

@@ -1,8 +1,8 @@
 -- `put_frames` lends the hello that was made, and the frames fit into the output. Assumes nothing.
 use native.Mathlib.Omega.{arith}
 use borrow.Author.Needs.{needs}
-use Rattle.greetings.proofs.put_frames.Statement.{statement}
-use Rattle.greetings.proofs.put_frames.Tie as tie
+use Rattle.test_greetings.proofs.put_frames.Statement.{statement}
+use Rattle.test_greetings.proofs.put_frames.Tie as tie
 
 part-write-frames-end : tie.Need-part-write-frames-end
 part-write-frames-end c =

@@ -1,8 +1,8 @@
 -- `main` ends: nine turns. Assumes nothing.
 use Prim.Native.Nat.{_-_, _≤_}
 use borrow.Author.Needs.{needs}
-use Rattle.greetings.proofs.main.Statement.{statement}
-use Rattle.greetings.proofs.main.Tie as tie
+use Rattle.test_greetings.proofs.main.Statement.{statement}
+use Rattle.test_greetings.proofs.main.Tie as tie
 
 abbrev Inv-loop : tie.InvT-loop
 Inv-loop i₀ t2 t3 t4 t5 i = i ≤ 9

@@ -1,8 +1,8 @@
 -- `write_run` ends: less is left after each turn. Assumes nothing.
 use native.Mathlib.Omega.{arith}
 use borrow.Author.Needs.{needs}
-use Rattle.limits.proofs.write_run.Statement.{statement}
-use Rattle.limits.proofs.write_run.Tie as tie
+use Rattle.test_scripts.proofs.write_run.Statement.{statement}
+use Rattle.test_scripts.proofs.write_run.Tie as tie
 
 abbrev Inv-loop : tie.InvT-loop
 Inv-loop fd byte times left₀ left =

@@ -1,5 +1,7 @@
-// Lines and operands at the limits of the script language, which are too long to be kept in a file: writes a script and two files
-// of bytes, and runs the script.
+// Runs three scripts: two greetings, a copy of examples/two-greetings.script; lines and operands at the limits of the script language,
+// which are too long to be kept in a file; and the fixed sample of the original Rust's answers, without notes. compare/run --sample
+// writes replay.script, and what the Rust answered at the end of the file stdout, after the line that tells so.
+use libc::STDOUT_FILENO;
 
 // Writes a byte so many times, up to 4,096.
 fn write_page(fd: i32, byte: u8, times: usize) {
@@ -25,7 +27,7 @@ fn make_file(path: &[u8], times: usize) {
     libc::close(fd);
 }
 
-fn make_script(path: &[u8]) {
+fn make_limits(path: &[u8]) {
     let fd = os::create(path);
     // a byte more than a line may have, and then a line as ever
     write_run(fd, b'x', 524289);
@@ -43,10 +45,20 @@ fn make_script(path: &[u8]) {
     libc::close(fd);
 }
 
+fn run(path: &[u8], notes: bool) {
+    let fd = os::open_read(path);
+    runner::run(fd, notes);
+    libc::close(fd);
+}
+
 fn main() {
     make_file(b"full", 131072);
     make_file(b"over", 131073);
-    make_script(b"script");
-    let fd = os::open_read(b"script");
-    runner::run(fd, true);
+    make_limits(b"limits.script");
+    io::write_all(STDOUT_FILENO, b"# two-greetings.script\n");
+    run(b"two-greetings.script", true);
+    io::write_all(STDOUT_FILENO, b"# limits.script\n");
+    run(b"limits.script", true);
+    io::write_all(STDOUT_FILENO, b"# replay.script: what the original Rust answered\n");
+    run(b"replay.script", false);
 }
