@@ -52,7 +52,7 @@ build_stubs() {
 # The C library, and the calls beside it that only compare/ asks.
 build_archives() {
     rt staticlib crustdelta_c
-    rt staticlib compare_c
+    rt staticlib compare_calls
 }
 
 # `--cfg test` on an ordinary binary keeps `varint::read` and the whole of fingerprint.rs, which are for tests in the
@@ -60,7 +60,7 @@ build_archives() {
 link_driver() {
     rust --cfg test -A unknown_lints -A explicit_builtin_cfgs_in_flags \
         --extern rand_core --extern rand_chacha --extern ring \
-        -L native=target/staticlib -l static=crustdelta_c -l static=compare_c \
+        -L native=target/staticlib -l static=crustdelta_c -l static=compare_calls \
         -o "$build/driver" "$build/src/main.rs"
 }
 

@@ -1,4 +1,4 @@
-//! Our calls: those of the C library from its archive, and the rest from the archive of the crate `compare_c`.
+//! Our calls: those of the C library from its archive, and the rest from the archive of the crate `compare_calls`.
 
 mod archive;
 mod library;

@@ -1,4 +1,4 @@
-//! The entries of the archive of the crate `compare_c`: what compare/ asks and the C library does not have.
+//! The entries of the archive of the crate `compare_calls`: what compare/ asks and the C library does not have.
 
 /// Hello and output for a text, each with its length after it.
 pub(super) type Text = unsafe extern "C" fn(*const u8, usize, *mut u8, usize) -> u64;
