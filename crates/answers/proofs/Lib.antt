@@ -1,3 +1,1 @@
 pub mod AnswerLaws
-pub mod ReaderLaws
-pub mod ListingLaws

@@ -1,14 +1,10 @@
--- The answer to each command, part by part, in the words of the script language.
+-- The answer to each command of the varints, the maker, the joiner, the cutter and the splitter, part by part, in the words of the script language.
 use Prim.Native.Nat.{ℕ}
-use mathlib.Core.Bool.{Bool, true, false}
 use mathlib.Core.List.{List, [], _∷_, _++_}
 use Rattle.wire.specs.Answer.{Answer, result, refused}
 use Rattle.varint.specs.declared.Varint.{Varint}
 use Rattle.tls.specs.declared.Hello.{Hello}
 use Rattle.records.specs.Records.{Found, record-to, end}
-use Rattle.fingerprint.specs.ClientHello.{ClientHello}
-use Rattle.fingerprint.specs.Report.{report}
-use Rattle.reports.specs.Lines.{reportText}
 use Rattle.script.specs.Scan.{space}
 use Rattle.script_writing.specs.Decimal.{decimalText}
 use Rattle.script_writing.specs.Shown.{shownText}
@@ -43,14 +39,6 @@ nextWord = 110 ∷ 101 ∷ 120 ∷ 116 ∷ space ∷ []
 -- "end"
 abbrev pub endWord : List ℕ
 endWord = 101 ∷ 110 ∷ 100 ∷ []
-
--- "yes"
-abbrev pub yesWord : List ℕ
-yesWord = 121 ∷ 101 ∷ 115 ∷ []
-
--- "no"
-abbrev pub noWord : List ℕ
-noWord = 110 ∷ 111 ∷ []
 
 -- "refused "
 abbrev pub refusedWord : List ℕ
@@ -107,13 +95,3 @@ abbrev pub splitting : Answer Found → List ℕ → Outcome
 splitting (result (record-to after)) part = hands part
 splitting (result end) part = plain
 splitting (refused n) part = number n
-
--- `report HELLO`: the report's lines, or `refused N`
-abbrev pub reportAnswer : Answer ClientHello → List (List ℕ)
-reportAnswer (result v) = reportText (report v)
-reportAnswer (refused n) = refusedWord ∷ decimalText n ∷ []
-
--- "`yes` or `no`"
-abbrev pub alikeParts : Bool → List (List ℕ)
-alikeParts true = yesWord ∷ []
-alikeParts false = noWord ∷ []

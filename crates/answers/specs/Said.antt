@@ -17,12 +17,12 @@ saidCount (said.Handed n k) = n
 saidCount (said.Refused n k) = n
 saidCount (said.Error f) = 0
 
--- how many bytes are kept for `_`, where so many were before
-abbrev pub keptCount : Said → ℕ → ℕ
-keptCount (said.Answer n) old = old
-keptCount (said.Handed n k) old = k
-keptCount (said.Refused n k) old = old
-keptCount (said.Error f) old = old
+-- how many bytes it hands back
+abbrev pub handedCount : Said → ℕ
+handedCount (said.Answer n) = 0
+handedCount (said.Handed n k) = k
+handedCount (said.Refused n k) = 0
+handedCount (said.Error f) = 0
 
 -- a call's outcome: a result, one that hands bytes back, or a refusal
 pub data Outcome : Type 0 where
@@ -55,12 +55,12 @@ pub record Says (o : Outcome) (parts : List (List ℕ)) (r : Said) (old new : Li
   pub is : r ≡ saidOf o (length (fittedAll parts (length old))) 0
   pub output : new ≡ front (fittedAll parts (length old)) old
   pub within : saidCount r ≤ length old
-  pub plain : (n : ℕ) → keptCount r n ≡ n
+  pub nothing : handedCount r ≡ 0
 
--- the same, and what is kept for `_`
+-- the same, and what is handed back for `_`
 pub record Hands (o : Outcome) (parts : List (List ℕ)) (r : Said) (old new last last′ : List ℕ) : Type 0 where
   pub is : r ≡ saidOf o (length (fittedAll parts (length old))) (length last)
   pub output : new ≡ front (fittedAll parts (length old)) old
   pub kept : last′ ≡ lastAfter o last
   pub within : saidCount r ≤ length old
-  pub room : (n : ℕ) → n ≤ length last → keptCount r n ≤ length last
+  pub room : handedCount r ≤ length last

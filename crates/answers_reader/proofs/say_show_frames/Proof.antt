@@ -5,10 +5,10 @@ use lib.ListN.{length}
 use Rattle.wire.specs.Stops.{stopOf, StopBounds}
 use Rattle.wire.specs.declared.Stop.{Stop}
 use Rattle.show_marks.specs.Text.{stopFrom}
-use Rattle.answers.proofs.ListingLaws.{stop-numbered, shows-frames, roomy-stops}
+use Rattle.answers_reader.proofs.ListingLaws.{stop-numbered, shows-frames, roomy-stops}
 use borrow.Author.Needs.{needs}
-use Rattle.answers.proofs.say_show_frames.Statement.{statement}
-use Rattle.answers.proofs.say_show_frames.Tie as tie
+use Rattle.answers_reader.proofs.say_show_frames.Statement.{statement}
+use Rattle.answers_reader.proofs.say_show_frames.Tie as tie
 
 enum-told : tie.Need-enum-told
 enum-told c = search needs

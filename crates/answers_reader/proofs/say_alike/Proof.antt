@@ -3,11 +3,11 @@ use mathlib.Core.Path.{sym, _∙_}
 use mathlib.Core.List.{[], _∷_}
 use denote.Ref.{now}
 use Rattle.script_writing.proofs.AnswerLaws.{written-one}
-use Rattle.answers.specs.Answers.{yesWord, noWord}
+use Rattle.answers_reader.specs.Answers.{yesWord, noWord}
 use Rattle.answers.proofs.AnswerLaws.{says-result}
 use borrow.Author.Needs.{needs}
-use Rattle.answers.proofs.say_alike.Statement.{statement}
-use Rattle.answers.proofs.say_alike.Tie as tie
+use Rattle.answers_reader.proofs.say_alike.Statement.{statement}
+use Rattle.answers_reader.proofs.say_alike.Tie as tie
 
 returns : tie.Need-returns
 returns c =

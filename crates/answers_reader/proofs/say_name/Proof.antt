@@ -2,9 +2,9 @@
 use borrow.Author.Needs.{needs}
 use denote.Ref.{now}
 use Rattle.reports.specs.Lines.{nameAnswer}
 use Rattle.answers.proofs.AnswerLaws.{hands-back}
-use Rattle.answers.proofs.say_name.Statement.{statement}
-use Rattle.answers.proofs.say_name.Tie as tie
+use Rattle.answers_reader.proofs.say_name.Statement.{statement}
+use Rattle.answers_reader.proofs.say_name.Tie as tie
 
 returns : tie.Need-returns
 returns c =

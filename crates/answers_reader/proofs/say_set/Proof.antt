@@ -11,10 +11,10 @@ use Rattle.fingerprint_lists.specs.declared.Types.{Types}
 use Rattle.reports.specs.Lines.{setText}
 use Rattle.reports.specs.Code.{setParts}
 use Rattle.reports.proofs.ShowLaws.{set-shown, set-filled}
 use Rattle.answers.proofs.AnswerLaws.{says-result}
-use Rattle.answers.proofs.ReaderLaws.{set-few}
-use Rattle.answers.proofs.say_set.Statement.{statement}
-use Rattle.answers.proofs.say_set.Tie as tie
+use Rattle.answers_reader.proofs.ReaderLaws.{set-few}
+use Rattle.answers_reader.proofs.say_set.Statement.{statement}
+use Rattle.answers_reader.proofs.say_set.Tie as tie
 
 put-set-requires : tie.Need-put-set-requires
 put-set-requires c κs =

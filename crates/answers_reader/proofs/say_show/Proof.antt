@@ -4,11 +4,11 @@ use denote.Ref.{now}
 use Rattle.wire.specs.Stops.{stopOf, StopBounds}
 use Rattle.wire.specs.declared.Stop.{Stop}
 use Rattle.show_marks.specs.Text.{stopFrom}
-use Rattle.answers.proofs.ListingLaws.{stop-numbered, shows-listing}
+use Rattle.answers_reader.proofs.ListingLaws.{stop-numbered, shows-listing}
 use borrow.Author.Needs.{needs}
 use lib.ListN.{length}
-use Rattle.answers.proofs.say_show.Statement.{statement}
-use Rattle.answers.proofs.say_show.Tie as tie
+use Rattle.answers_reader.proofs.say_show.Statement.{statement}
+use Rattle.answers_reader.proofs.say_show.Tie as tie
 
 enum-told : tie.Need-enum-told
 enum-told c = search needs

@@ -10,12 +10,12 @@ use Rattle.fingerprint.specs.declared.Fingerprint.{Fingerprint}
 use Rattle.reports.specs.Lines.{reportText}
 use Rattle.reports.specs.Code.{reportParts}
 use Rattle.reports.proofs.ShowLaws.{parts-shown}
-use Rattle.answers.specs.Answers.{reportAnswer}
+use Rattle.answers_reader.specs.Answers.{reportAnswer}
 use Rattle.wire.specs.Answer.{refused}
 use Rattle.answers.proofs.AnswerLaws.{says-result, says-refused}
 use Rattle.fingerprint.proofs.ShownLaws.{parsed-sane, reported, refusal-is}
-use Rattle.answers.proofs.say_report.Statement.{statement}
-use Rattle.answers.proofs.say_report.Tie as tie
+use Rattle.answers_reader.proofs.say_report.Statement.{statement}
+use Rattle.answers_reader.proofs.say_report.Tie as tie
 
 returns : tie.Need-returns
 returns c =

@@ -13,9 +13,9 @@ use Rattle.show_hello.specs.Listing.{Listed}
 use Rattle.frames.specs.Join.{limit, roomy}
 use Rattle.frames.specs.Stops.{joinStops, joinerStops}
 use Rattle.show_frames.specs.Frames.{FramesListed}
-use Rattle.answers.specs.Listings.{ShowsHello, ShowsFrames}
+use Rattle.answers_reader.specs.Listings.{ShowsHello, ShowsFrames}
 use Rattle.answers.specs.declared.Said.the-variants as said
 use Rattle.answers.proofs.AnswerLaws.{says-result}
 
 -- a number of 1 or more is that of a stop
 pub stop-numbered : (number place : ℕ) → 1 ≤ number → some (stopped number place) ≡ stopFrom number place
