@@ -1,16 +1,9 @@
--- Bounds that the functions of this crate keep. What the system reads has no contract; that of the text is in `script` and `answers`.
+-- Bounds that a command keeps. What the system reads has no contract; that of the text is in `script`, `answers` and `answers_reader`.
 use Prim.Native.Nat.{ℕ, _≤_}
 use Rattle.answers.specs.declared.Said.{Said}
-use Rattle.answers.specs.Said.{saidCount, keptCount}
-use Rattle.commands.specs.declared.operands.Operand.{Operand}
-use Rattle.commands.specs.declared.operands.Operand.the-variants as the-operand
+use Rattle.answers.specs.Said.{saidCount, handedCount}
 
--- how many bytes an operand has
-abbrev pub operandCount : Operand → ℕ
-operandCount (the-operand.Bytes n) = n
-operandCount (the-operand.Unread f) = 0
-
--- the text fits the output, and what is kept for `_` fits its buffer
-pub record Fits (kept last out : ℕ) (r : Said) : Type 0 where
+-- the text fits the output, and what is handed back for `_` fits its buffer
+pub record Fits (last out : ℕ) (r : Said) : Type 0 where
   pub text : saidCount r ≤ out
-  pub held : keptCount r kept ≤ last
+  pub held : handedCount r ≤ last

@@ -1,71 +1,189 @@
-// The commands of a script: a function for each, which reads its operands and makes the call that answers it.
-mod files;
-mod frames;
-mod maker;
-mod operands;
-mod reader;
-mod varints;
-
-ghost use Prim.Native.Nat.{_≤_};
+// The commands of a script. The first word of a line says which command it is, and so which operands it has; they are read, and the
+// call that answers the command is made.
 ghost use lib.ListN.{length};
 ghost use Rattle.commands.specs.Bounds.{Fits};
 use answers::Fault;
 use answers::Said;
+use operands::Reading;
+use operands::inputs_room;
+use operands::kinds::ALIKE;
+use operands::kinds::FRAMES;
+use operands::kinds::MAKE;
+use operands::kinds::NAME;
+use operands::kinds::NONE;
+use operands::kinds::READ;
+use operands::kinds::REPORT;
+use operands::kinds::SET;
+use operands::kinds::SHOW;
+use operands::kinds::SHOW_FRAMES;
+use operands::kinds::SIZE;
+use operands::kinds::SPLIT;
+use operands::kinds::WRITE;
+use operands::kinds::number_of;
+use operands::kinds::operands_of;
+use operands::read_buffer;
+use operands::read_inputs;
+use operands::read_value;
+use operands::room;
+use script::reading::Number;
+use script::words::has_operands;
 use script::words::word_at;
 
-// Answers a line. The first bytes of `last`, `kept` of them, are those of the last answer that handed some back.
-pub fn command(line: &[u8], last: &mut [u8], kept: usize, out: &mut [u8]) -> Said
-    requires { ⌜ kept ≤ length (now last) ⌝ }
-    ensures { λ r. ⌜ Fits kept (length (now (last .entry))) (length (now (out .entry))) r ⌝ }
+// Answers a line. `kept` is what `_` stands for; what the answer hands back is put at the front of `last`.
+pub fn command(line: &[u8], kept: &[u8], last: &mut [u8], out: &mut [u8]) -> Said
+    ensures { λ r. ⌜ Fits (length (now (last .entry))) (length (now (out .entry))) r ⌝ }
 {
-    let name = word_at(line, 0);
-    if check::same(name, b"size") {
-        return varints::size(line, out);
+    let command = number_of(word_at(line, 0));
+    if command == NONE {
+        return Said::Error(Fault::NoCommand);
     }
-    if check::same(name, b"write") {
-        return varints::write(line, &last[0..kept], out);
+    if !has_operands(line, operands_of(command)) {
+        return Said::Error(Fault::Count);
     }
-    if check::same(name, b"read") {
-        return varints::read(line, &last[0..kept], out);
+    match read_value(line, command) {
+        Number::Value(value) => answer_inputs(line, command, value, kept, last, out),
+        Number::Malformed => Said::Error(Fault::NoNumber),
     }
-    if check::same(name, b"make") {
-        return maker::make(line, last, kept, out);
-    }
-    if check::same(name, b"join") {
-        return frames::join(line, last, kept, out);
-    }
-    if check::same(name, b"frames") {
-        return frames::frames(line, last, kept, out);
-    }
-    if check::same(name, b"split") {
-        return frames::split(line, last, kept, out);
-    }
-    if check::same(name, b"show-frames") {
-        return frames::show_frames(line, &last[0..kept], out);
-    }
-    reader_command(line, last, kept, out)
 }
 
-// Answers a line whose command is one of the reader's, or none.
-fn reader_command(line: &[u8], last: &mut [u8], kept: usize, out: &mut [u8]) -> Said
-    requires { ⌜ kept ≤ length (now last) ⌝ }
-    ensures { λ r. ⌜ Fits kept (length (now (last .entry))) (length (now (out .entry))) r ⌝ }
+// Reads the bytes that the command reads, and answers it.
+fn answer_inputs(
+    line: &[u8],
+    command: usize,
+    value: u64,
+    kept: &[u8],
+    last: &mut [u8],
+    out: &mut [u8],
+) -> Said
+    ensures { λ r. ⌜ Fits (length (now (last .entry))) (length (now (out .entry))) r ⌝ }
 {
-    let name = word_at(line, 0);
-    if check::same(name, b"report") {
-        return reader::report(line, &last[0..kept], out);
+    let mut bytes = inputs_room();
+    let read = read_inputs(line, command, kept, &mut bytes);
+    let reading = read.reading;
+    if let Reading::Failed(fault) = reading {
+        return Said::Error(fault);
     }
-    if check::same(name, b"show") {
-        return reader::show(line, &last[0..kept], out);
+    let a = read.first;
+    let b = read.second;
+    let c = read.third;
+    let all: &[u8] = &bytes;
+    answer(
+        line,
+        command,
+        value,
+        &all[0..a],
+        &all[a..b],
+        &all[b..c],
+        kept,
+        last,
+        out,
+    )
+}
+
+// Answers a command whose operands are read, but for the buffers that it fills.
+fn answer<'a>(
+    line: &[u8],
+    command: usize,
+    value: u64,
+    first: &'a [u8],
+    second: &'a [u8],
+    third: &[u8],
+    kept: &[u8],
+    last: &mut [u8],
+    out: &mut [u8],
+) -> Said
+    ensures { λ r. ⌜ Fits (length (now (last .entry))) (length (now (out .entry))) r ⌝ }
+{
+    match command {
+        SIZE => answers::say_size(value, out),
+        READ => answers::say_read(first, out),
+        SPLIT => answers::say_split(value, first, last, out),
+        SHOW_FRAMES => answers_reader::say_show_frames(first, out),
+        REPORT => answers_reader::say_report(first, out),
+        SHOW => answers_reader::say_show(first, out),
+        NAME => answers_reader::say_name(first, second, last, out),
+        SET => answers_reader::say_set(first, out),
+        ALIKE => answers_reader::say_alike(first, second, out),
+        _ => answer_buffer(line, command, value, first, second, third, kept, last, out),
     }
-    if check::same(name, b"name") {
-        return reader::name(line, last, kept, out);
+}
+
+// Reads the first buffer that the command fills, and answers it.
+fn answer_buffer(
+    line: &[u8],
+    command: usize,
+    value: u64,
+    first: &[u8],
+    second: &[u8],
+    third: &[u8],
+    kept: &[u8],
+    last: &mut [u8],
+    out: &mut [u8],
+) -> Said
+    ensures { λ r. ⌜ Fits (length (now (last .entry))) (length (now (out .entry))) r ⌝ }
+{
+    let mut buffer = room();
+    let read = read_buffer(line, command, 0, kept, &mut buffer);
+    let reading = read.reading;
+    if let Reading::Failed(fault) = reading {
+        return Said::Error(fault);
     }
-    if check::same(name, b"set") {
-        return reader::set(line, &last[0..kept], out);
+    let n = read.count;
+    fill(
+        line,
+        command,
+        value,
+        first,
+        second,
+        third,
+        &mut buffer[0..n],
+        kept,
+        last,
+        out,
+    )
+}
+
+// Answers a command that fills a buffer.
+fn fill(
+    line: &[u8],
+    command: usize,
+    value: u64,
+    first: &[u8],
+    second: &[u8],
+    third: &[u8],
+    buffer: &mut [u8],
+    kept: &[u8],
+    last: &mut [u8],
+    out: &mut [u8],
+) -> Said
+    ensures { λ r. ⌜ Fits (length (now (last .entry))) (length (now (out .entry))) r ⌝ }
+{
+    match command {
+        WRITE => answers::say_write(value, buffer, out),
+        MAKE => answers::say_make(value, first, second, third, buffer, last, out),
+        FRAMES => answers::say_frames(value, first, buffer, last, out),
+        _ => join(line, command, first, buffer, kept, last, out),
     }
-    if check::same(name, b"alike") {
-        return reader::alike(line, &last[0..kept], out);
+}
+
+// Answers the command that fills two buffers.
+fn join(
+    line: &[u8],
+    command: usize,
+    frames: &[u8],
+    buffer: &mut [u8],
+    kept: &[u8],
+    last: &mut [u8],
+    out: &mut [u8],
+) -> Said
+    ensures { λ r. ⌜ Fits (length (now (last .entry))) (length (now (out .entry))) r ⌝ }
+{
+    let mut marks = room();
+    let read = read_buffer(line, command, 1, kept, &mut marks);
+    let reading = read.reading;
+    if let Reading::Failed(fault) = reading {
+        return Said::Error(fault);
     }
-    Said::Error(Fault::NoCommand)
+    let n = read.count;
+    answers::say_join(frames, buffer, &mut marks[0..n], last, out)
 }

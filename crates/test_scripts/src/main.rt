@@ -59,6 +59,9 @@ fn main() {
     run(b"two-greetings.script", true);
     io::write_all(STDOUT_FILENO, b"# limits.script\n");
     run(b"limits.script", true);
-    io::write_all(STDOUT_FILENO, b"# replay.script: what the original Rust answered\n");
+    io::write_all(
+        STDOUT_FILENO,
+        b"# replay.script: what the original Rust answered\n",
+    );
     run(b"replay.script", false);
 }
