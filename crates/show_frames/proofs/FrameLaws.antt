@@ -6,14 +6,12 @@ use mathlib.Core.Bool.{Bool, true, false, cond}
 use mathlib.Core.List.{List, [], _∷_}
 use mathlib.Core.Option.{some}
 use native.Mathlib.Omega.{arith}
-use native.Mathlib.Numerals.{add-one}
-use borrow.Author.Tests.{ne-eqb}
-use lib.ListN.{length, take, drop, getD, length-drop, drop-of-length-le}
-use lib.Seq.{drop-cons}
+use lib.ListN.{length, take, drop, length-drop}
 use lib.Dec.{eqb}
 use Rattle.wire.specs.Answer.{Answer, result, refused, andThen}
 use Rattle.wire.proofs.AnswerLaws.{apart}
 use Rattle.wire.specs.Stops.{Stopped}
+use Rattle.script_writing.specs.Shown.{equalFront}
 use Rattle.frames.specs.declared.reading.CryptoFrame.{CryptoFrame}
 use Rattle.frames.specs.declared.reading.FrameRead.{FrameRead}
 use Rattle.frames.specs.Read.{Shape, padding, ping, crypto, readCrypto, readFrame, shapeOf, FrameFound}
@@ -27,24 +25,11 @@ use Rattle.show_frames.specs.Frames.{zeros, sizeBy, lineSize, frameRows,
 
 -- ---- How many bytes a line takes
 
-pub zeros-within : (bs : List ℕ) → zeros bs ≤ length bs
-unfolding zeros
+zeros-within : (bs : List ℕ) → zeros bs ≤ length bs
+unfolding zeros equalFront
 zeros-within [] = zero-le
 zeros-within (b ∷ bs) =
     cond-elim (λ (n : ℕ). n ≤ suc (length bs)) (eqb b 0) _ _ (λ t. let up = zeros-within bs in omega arith) (λ t. zero-le)
-
--- from a place on, where a byte 00 stands there, where another does, and at the end
-pub zeros-more : (bs : List ℕ) (i : ℕ) → i < length bs → getD bs i 0 ≡ 0 → zeros (drop i bs) ≡ suc (zeros (drop (i + 1) bs))
-unfolding zeros
-zeros-more bs i h e = rw (drop-cons bs i 0 h, e, add-one)
-
-pub zeros-none : (bs : List ℕ) (i : ℕ) → i < length bs → (getD bs i 0 ≡ 0 → ⊥) → zeros (drop i bs) ≡ 0
-unfolding zeros
-zeros-none bs i h e = rw (drop-cons bs i 0 h, ne-eqb (getD bs i 0) 0 e)
-
-pub zeros-end : (bs : List ℕ) (i : ℕ) → length bs ≤ i → zeros (drop i bs) ≡ 0
-unfolding zeros
-zeros-end bs i h = rw (drop-of-length-le bs {i = i} h)
 
 abbrev onPadding : Answer Shape → ℕ
 onPadding (refused n) = 0
@@ -60,8 +45,8 @@ not-padding false true (refused n) e = apart e
 not-padding false false a e = apart e
 
 -- PADDING begins with a byte 00
-pub zeros-some : (bs : List ℕ) → readFrame bs ≡ result padding → 1 ≤ zeros bs
-unfolding readFrame zeros
+zeros-some : (bs : List ℕ) → readFrame bs ≡ result padding → 1 ≤ zeros bs
+unfolding readFrame zeros equalFront
 zeros-some [] e = absurd (apart e)
 zeros-some (b ∷ bs) e = by-zero (eqb b 0) e
   where

@@ -14,17 +14,14 @@ use Rattle.script_writing.proofs.AnswerLaws.{written-more}
 use Rattle.wire.specs.Stops.{Stopped}
 use Rattle.show_lines.specs.Lines.{Row, row}
 use Rattle.show_marks.specs.Text.{lastRow, verdictParts, LinesParts}
-use Rattle.show_words.specs.Code.{LineWritten}
-use Rattle.show_words.proofs.WroteLaws.{all-none}
-use Rattle.show_words.proofs.LineLaws.{lines-more}
+use Rattle.show_words.specs.Code.{LineWritten, LinesWritten}
+use Rattle.show_words.proofs.LineLaws.{lines-none, lines-next}
 use Rattle.show_frames.specs.Frames.{lineSize, frameRows, rowsOf, endFrom, shownRows, room, RowsWritten, FramesListed}
 
 pub record Going (bs : List ℕ) (stop : Option Stopped) (at used : ℕ) (old out : List ℕ) : Type 0 where
   pub before : List Row
   pub fuel : ℕ
-  pub parts : List (List ℕ)
-  pub are : LinesParts 5 bs stop before parts
-  pub is : WrittenAll parts used old out
+  pub stand : LinesWritten 5 bs stop before used old out
   pub ends : endFrom 0 before ≡ at
   pub left : before ++ frameRows fuel at (drop at bs) ≡ rowsOf bs
   pub enough : length bs ≤ fuel + at
@@ -49,7 +46,7 @@ module _ (bs : List ℕ) (stop : Option Stopped) where
   pub going-none : (out : List ℕ) → Going bs stop 0 0 out out
   unfolding rowsOf endFrom
   going-none out =
-      record { before = []; fuel = length bs; parts = []; are = refl; is = all-none out; ends = refl; left = refl; enough = omega arith }
+      record { before = []; fuel = length bs; stand = lines-none 5 bs stop out; ends = refl; left = refl; enough = omega arith }
 
   pub going-more : (at size n m k : ℕ) (old out part : List ℕ) → at < length bs → size ≡ lineSize (drop at bs) → 1 ≤ size
       → Going bs stop at n old out → k ≡ length out - n → LineWritten 5 bs stop (row at (at + size) 0) m (midOf n k out) part
@@ -66,9 +63,7 @@ module _ (bs : List ℕ) (stop : Option Stopped) where
       record {
         before = g .before ++ (r ∷ []);
         fuel = f;
-        parts = g .parts ++ w .parts;
-        are = lines-more 5 bs stop (g .before) r (g .parts) (w .parts) (g .are) (w .are);
-        is = written-more (g .parts) (w .parts) n m k old out part (g .is) lent (w .is);
+        stand = lines-next (g .stand) lent w;
         ends = ends-more 0 (g .before) r;
         left = append-assoc (g .before) (r ∷ []) (frameRows f (at + size) (drop (at + size) bs))
             ∙ ap (λ (x : List Row). g .before ++ x) (sym turn)
@@ -89,14 +84,15 @@ module _ (bs : List ℕ) (stop : Option Stopped) where
       (w : LineWritten 5 bs stop (lastRow bs at) m (midOf n k out) part) where
     ended : (length (rowsOf bs) ≤ length (g .before)) ⊎ (length old < n + m + room) → RowsWritten bs stop (n + m) old (putMid n k out part)
     ended whole =
+        let all : LinesWritten 5 bs stop (g .before ++ (lastRow bs at ∷ [])) (n + m) old (putMid n k out part) = lines-next (g .stand) lent w in
         record {
           count = length (g .before);
-          lines = g .parts ++ w .parts;
-          are = subst (λ (rs : List Row). LinesParts 5 bs stop rs (g .parts ++ w .parts))
+          lines = all .parts;
+          are = subst (λ (rs : List Row). LinesParts 5 bs stop rs (all .parts))
               (shown-is (g .before) (frameRows (g .fuel) at (drop at bs)) at (g .left) (g .ends))
-              (lines-more 5 bs stop (g .before) (lastRow bs at) (g .parts) (w .parts) (g .are) (w .are));
+              (all .are);
           whole = whole;
-          is = written-more (g .parts) (w .parts) n m k old out part (g .is) lent (w .is);
+          is = all .is;
         }
 
     pub ended-whole : length bs ≤ at → RowsWritten bs stop (n + m) old (putMid n k out part)

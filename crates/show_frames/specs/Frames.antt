@@ -2,12 +2,11 @@
 -- frame can be read from is one line.
 use Prim.Native.Nat.{ℕ, zero, suc, _+_, _≤_, _<_}
 use mathlib.Core.Logic.{_⊎_}
-use mathlib.Core.Bool.{cond}
 use mathlib.Core.List.{List, [], _∷_, _++_}
 use mathlib.Core.Option.{Option}
 use lib.ListN.{length, take, drop}
-use lib.Dec.{eqb}
 use Rattle.wire.specs.Answer.{Answer, result, refused}
+use Rattle.script_writing.specs.Shown.{equalFront}
 use Rattle.script_writing.specs.Answers.{WrittenAll}
 use Rattle.wire.specs.Stops.{Stopped}
 use Rattle.frames.specs.Read.{Shape, padding, ping, crypto, readFrame}
@@ -16,8 +15,7 @@ use Rattle.show_marks.specs.Text.{lastRow, verdictParts, LinesParts}
 
 -- how many bytes 00 stand at the front
 unfoldable pub zeros : List ℕ → ℕ
-zeros [] = 0
-zeros (b ∷ bs) = cond (eqb b 0) (suc (zeros bs)) 0
+zeros bs = equalFront 0 bs
 
 -- how many bytes the line at the front takes
 abbrev pub sizeBy : List ℕ → Answer Shape → ℕ

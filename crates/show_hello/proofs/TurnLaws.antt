@@ -8,23 +8,17 @@ use borrow.Author.Tests.{lt-ltb, le-ltb}
 use borrow.Rule.Slice.PartMut.{midOf, putMid}
 use lib.ListN.{length}
 use Rattle.wire.specs.Stops.{Stopped}
-use Rattle.script_writing.specs.Answers.{WrittenAll}
-use Rattle.script_writing.proofs.AnswerLaws.{written-more}
 use Rattle.show_lines.specs.declared.cursor.Cursor.{Cursor}
 use Rattle.show_lines.specs.declared.cursor.Line.{Line}
 use Rattle.show_lines.specs.Lines.{Row, row, lineAt, next, start, listed}
-use Rattle.show_marks.specs.Text.{LinesParts}
 use Rattle.show_words.specs.Code.{LineWritten, LinesWritten}
-use Rattle.show_words.proofs.WroteLaws.{all-none}
-use Rattle.show_words.proofs.LineLaws.{lines-more}
+use Rattle.show_words.proofs.LineLaws.{lines-none, lines-next}
 
 -- the lines so far, and those that are left
 pub record Going (h : List ℕ) (stop : Option Stopped) (c : Cursor) (used : ℕ) (old out : List ℕ) : Type 0 where
   pub before : List Row
   pub fuel : ℕ
-  pub parts : List (List ℕ)
-  pub are : LinesParts 4 h stop before parts
-  pub is : WrittenAll parts used old out
+  pub stand : LinesWritten 4 h stop before used old out
   pub left : before ++ listed fuel h c ≡ listed (length h) h (start h)
   pub enough : length h ≤ fuel + c .at
 
@@ -34,9 +28,7 @@ module _ (h : List ℕ) (stop : Option Stopped) where
       record {
         before = [];
         fuel = length h;
-        parts = [];
-        are = refl;
-        is = all-none out;
+        stand = lines-none 4 h stop out;
         left = ap (listed (length h) h) e;
         enough = omega arith;
       }
@@ -65,9 +57,7 @@ module _ (h : List ℕ) (stop : Option Stopped) where
       record {
         before = g .before ++ (r ∷ []);
         fuel = g .fuel - 1;
-        parts = g .parts ++ w .parts;
-        are = lines-more 4 h stop (g .before) r (g .parts) (w .parts) (g .are) (w .are);
-        is = written-more (g .parts) (w .parts) n m k old out part (g .is) lent (w .is);
+        stand = lines-next (g .stand) lent w;
         left = append-assoc (g .before) (r ∷ []) (listed (g .fuel - 1) h d)
             ∙ ap (λ (x : List Row). g .before ++ x) (sym turn)
             ∙ g .left;
@@ -81,4 +71,4 @@ module _ (h : List ℕ) (stop : Option Stopped) where
       sym (append-nil (g .before))
       ∙ ap (λ (x : List Row). g .before ++ x) (sym (listed-none (g .fuel) c k))
       ∙ g .left in
-      record { parts = g .parts; are = subst (λ (rs : List Row). LinesParts 4 h stop rs (g .parts)) all (g .are); is = g .is }
+      subst (λ (rs : List Row). LinesWritten 4 h stop rs n old out) all (g .stand)

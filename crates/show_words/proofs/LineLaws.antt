@@ -1,11 +1,12 @@
 -- The parts of a line, and lines one after the other. Assumes nothing.
-use Prim.Native.Nat.{ℕ, _-_, _≤_, min}
+use Prim.Native.Nat.{ℕ, _+_, _-_, _≤_, min}
 use mathlib.Core.Path.{_≡_, refl, sym, ap, ap₂, _∙_}
 use mathlib.Core.Logic.{⊎-elim}
 use mathlib.Core.Bool.{Bool, true, false, cond, false≢true}
 use mathlib.Core.List.{List, [], _∷_, _++_, append-assoc, append-nil}
 use mathlib.Core.Option.{Option, none, some}
 use native.Mathlib.Omega.{arith}
+use borrow.Rule.Slice.PartMut.{midOf, putMid}
 use lib.ListN.{length, take, drop, length-drop}
 use lib.Seq.{take-all}
 use lib.Dec.{eqb}
@@ -13,10 +14,12 @@ use Rattle.wire.specs.Stops.{Stopped, stopped}
 use Rattle.wire.proofs.ListLaws.{lt-or-le}
 use Rattle.script_writing.specs.Decimal.{decimalText}
 use Rattle.script_writing.specs.Answers.{WrittenAll}
+use Rattle.script_writing.proofs.AnswerLaws.{written-more}
 use Rattle.script.specs.Scan.{text}
 use Rattle.show_lines.specs.Lines.{Row, row}
 use Rattle.show_marks.specs.Text.{marks, frontParts, reasonParts, bytesOf, stopFrom, LineParts, LinesParts}
-use Rattle.show_words.specs.Code.{LineWritten}
+use Rattle.show_words.specs.Code.{LineWritten, LinesWritten}
+use Rattle.show_words.proofs.WroteLaws.{all-none}
 
 -- ---- One line
 
@@ -94,3 +97,17 @@ pub lines-more : (width : ℕ) (h : List ℕ) (stop : Option Stopped) (rs : List
 lines-more width h stop [] r ps p e l = (p, [], l, refl, ap (λ (x : List (List ℕ)). x ++ p) e ∙ sym (append-nil p))
 lines-more width h stop (q ∷ rs) r ps p (first, others, a, rest, e) l =
     (first, others ++ p, a, lines-more width h stop rs r others p rest l, ap (λ (x : List (List ℕ)). x ++ p) e ∙ append-assoc first others p)
+
+-- the same of what stands in an output
+pub lines-none : (width : ℕ) (h : List ℕ) (stop : Option Stopped) (out : List ℕ) → LinesWritten width h stop [] 0 out out
+lines-none width h stop out = record { parts = []; are = refl; is = all-none out }
+
+module _ {width : ℕ} {h : List ℕ} {stop : Option Stopped} {rs : List Row} {r : Row} {n m k : ℕ} {old out part : List ℕ} where
+  pub lines-next : LinesWritten width h stop rs n old out → k ≡ length out - n → LineWritten width h stop r m (midOf n k out) part
+      → LinesWritten width h stop (rs ++ (r ∷ [])) (n + m) old (putMid n k out part)
+  lines-next ls e l =
+      record {
+        parts = ls .parts ++ l .parts;
+        are = lines-more width h stop rs r (ls .parts) (l .parts) (ls .are) (l .are);
+        is = written-more (ls .parts) (l .parts) n m k old out part (ls .is) e (l .is);
+      }

@@ -5,7 +5,7 @@ use native.Mathlib.Omega.{arith}
 use lib.ListN.{length, drop}
 use borrow.Author.Needs.{needs}
 use Rattle.show_frames.specs.Frames.{zeros}
-use Rattle.show_frames.proofs.FrameLaws.{zeros-more, zeros-none, zeros-end}
+use Rattle.script_writing.proofs.ShownLaws.{equal-more, equal-stop, equal-end}
 use Rattle.show_frames.proofs.zeros.Statement.{statement}
 use Rattle.show_frames.proofs.zeros.Tie as tie
 
@@ -21,20 +21,23 @@ loop-holds : tie.Need-loop-holds Inv-loop μ-loop
 loop-holds c = (omega arith, omega arith)
 
 returns : tie.Need-returns Inv-loop μ-loop
+unfolding zeros
 returns c =
     let loop = c .before .before .before .loop in
-    let here = zeros-none (c .before .before .before .before .args .input .now) (loop .i) (c .before .before .loop-test .taken) (c .if1 .taken) in
+    let here = equal-stop 0 (c .before .before .before .before .args .input .now) (loop .i) (c .before .before .loop-test .taken) (c .if1 .taken) in
     (omega (arith, here), omega arith)
 
 loop-again : tie.Need-loop-again Inv-loop μ-loop
+unfolding zeros
 loop-again c =
     let loop = c .before .before .before .loop in
-    let next = zeros-more (c .before .before .before .before .args .input .now) (loop .i) (c .before .before .loop-test .taken) (c .if1 .left) in
+    let next = equal-more 0 (c .before .before .before .before .args .input .now) (loop .i) (c .before .before .loop-test .taken) (c .if1 .left) in
     (omega arith, omega (arith, next))
 
 returns-2 : tie.Need-returns-2 Inv-loop μ-loop
+unfolding zeros
 returns-2 c =
-    let end = zeros-end (c .before .before .args .input .now) (c .before .loop .i) (c .loop-test .left) in
+    let end = equal-end 0 (c .before .before .args .input .now) (c .before .loop .i) (c .loop-test .left) in
     (omega (arith, end), omega arith)
 
 pub zeros-spec : {M : Type 1} → statement M

@@ -5,18 +5,6 @@ use Rattle.registries.specs.Tables.{types, typeNames, typeName}
 use Rattle.registries.proofs.tables.put_type.Statement.{statement}
 use Rattle.registries.proofs.tables.put_type.Tie as tie
 
-slice-aggregate-put-in : tie.Need-slice-aggregate-put-in
-slice-aggregate-put-in c = search needs
-
-slice-aggregate-put-in-2 : tie.Need-slice-aggregate-put-in-2
-slice-aggregate-put-in-2 c = search needs
-
-put-in-requires : tie.Need-put-in-requires
-put-in-requires c κs = search needs
-
-same-length : tie.Need-same-length
-same-length c = search needs
-
 returns : tie.Need-returns
 unfolding typeName types typeNames texts
 returns c = c .before .before .put-in .ensures
@@ -24,4 +12,9 @@ returns c = c .before .before .put-in .ensures
 pub put-type-spec : {M : Type 1} → statement M
 put-type-spec =
     tie.close
-    (tie.spec slice-aggregate-put-in slice-aggregate-put-in-2 put-in-requires same-length returns)
+    (tie.spec
+    (λ c. search needs)  -- slice-aggregate-put-in
+    (λ c. search needs)  -- slice-aggregate-put-in-2
+    (λ c κs. search needs)  -- put-in-requires
+    (λ c. search needs)  -- same-length
+    returns)
