@@ -15,7 +15,7 @@ use Rattle.fingerprint_lists.specs.Arrays.{padded}
 use Rattle.fingerprint.specs.ClientHello.{ClientHello}
 use Rattle.fingerprint.specs.Reader.{oneExtension, askBody, extension, walk, allExtensions, afterSuites, afterSession, fields, readExtensions, readBody, readFields, read}
 use Rattle.fingerprint.specs.Report.{numbersIn, namesIn, gathered, blockPlace, firstOf, report, sniOf, shown, parsedOf}
-use Rattle.fingerprint.proofs.Samples.{helloWith}
+use Rattle.fingerprint.proofs.Samples.{helloOf, helloWith}
 use Rattle.fingerprint_layout.specs.Layout.{little, littles, ranges, nameNumbers, countNumbers, listNumbers, layout, reportOf}
 
 -- a hello with one suite, 1301, two groups, 001d and 0102, and one key share, of 001d
@@ -31,13 +31,13 @@ places = 0 ∷ 4 ∷ 8 ∷ 24 ∷ 152 ∷ 280 ∷ 408 ∷ []
 -- the four bytes at each of these places
 abbrev pub bytes : List (List ℕ)
 bytes =
-    -- a session id of no bytes, one suite; writes_big_endian has 00 00 00 01
+    -- a session id of no bytes, one suite
     (0x00 ∷ 0x00 ∷ 0x01 ∷ 0x00 ∷ [])
     -- two types, two groups; key_shares_counted_as_groups has 02 00 01 00
     ∷ (0x02 ∷ 0x00 ∷ 0x02 ∷ 0x00 ∷ [])
     -- one key share, no algorithms
     ∷ (0x01 ∷ 0x00 ∷ 0x00 ∷ 0x00 ∷ [])
-    -- the suites, and the types
+    -- the suites; writes_big_endian has 13 01 00 00. Then the types.
     ∷ (0x01 ∷ 0x13 ∷ 0x00 ∷ 0x00 ∷ [])
     ∷ (0x0a ∷ 0x00 ∷ 0x33 ∷ 0x00 ∷ [])
     -- the groups; groups_a_place_further has 00 00 1d 00
@@ -48,7 +48,7 @@ bytes =
 
 pub written : map (λ at. take 4 (drop at (layout (parsedOf (read (helloWith block)))))) places ≡ bytes
 unfolding
-    helloWith vector digits number numberOn read readFields readBody whole vectorAt numberAt taken bind mapped fields atMost afterSession evenWords wordsIn
+    helloOf helloWith vector digits number numberOn read readFields readBody whole vectorAt numberAt taken bind mapped fields atMost afterSession evenWords wordsIn
     afterSuites atLeast readExtensions allExtensions walk extension oneExtension askBody member any kind bodyOf wordList oneShare keyShares first entries
     allEntries idsNew withinCounts parsedOf report blockPlace gathered numbersIn namesIn firstOf encodeBody words shown sniOf padded little littles ranges
     nameNumbers countNumbers listNumbers layout
