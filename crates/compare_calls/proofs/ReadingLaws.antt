@@ -11,7 +11,7 @@ use Rattle.fingerprint.specs.ClientHello.{ClientHello}
 use Rattle.fingerprint.specs.declared.Fingerprint.{Fingerprint}
 use Rattle.fingerprint.proofs.Accepted.{Numbered}
 use Rattle.answers.specs.Said.{plain, plainly, saidCount, Says}
-use Rattle.answers.specs.Answers.{reportAnswer}
+use Rattle.answers_reader.specs.Answers.{reportAnswer}
 use Rattle.answers.specs.declared.Said.{Said}
 use Rattle.answers.specs.declared.Said.the-variants as said
 use Rattle.compare_calls.specs.Reading.{ReportCoded, TextCoded, added, pickedOf}

@@ -13,7 +13,7 @@ use Rattle.script_writing.specs.Answers.{fittedAll}
 use Rattle.fingerprint_lists.specs.Arrays.{extType, group, span}
 use Rattle.fingerprint.specs.ClientHello.{ClientHello}
 use Rattle.fingerprint.specs.declared.Fingerprint.{Fingerprint}
-use Rattle.answers.specs.Answers.{reportAnswer}
+use Rattle.answers_reader.specs.Answers.{reportAnswer}
 
 -- the length of a text that was written, or 2^32 plus the number
 abbrev pub codedLength : Answer ClientHello → ℕ → ℕ

@@ -130,7 +130,7 @@ pub extern "C" fn compare_record(blob: &[u8], place: usize, out: &mut [u8]) -> u
 pub extern "C" fn compare_report(hello: &[u8], out: &mut [u8]) -> u64
     ensures { λ r. ⌜ ReportCoded (read (now (hello .entry))) (now (out .entry)) r (now (out .exit)) ⌝ }
 {
-    match answers::say_report(hello, out) {
+    match answers_reader::say_report(hello, out) {
         Said::Answer(n) => n as u64,
         Said::Handed(n, _) => n as u64,
         Said::Refused(_, number) => 4294967296 + number,
@@ -143,7 +143,7 @@ pub extern "C" fn compare_report(hello: &[u8], out: &mut [u8]) -> u64
 pub extern "C" fn compare_set(hello: &[u8], out: &mut [u8]) -> u64
     ensures { λ r. ⌜ TextCoded (setText (extensionSet (read (now (hello .entry))))) (now (out .entry)) r (now (out .exit)) ⌝ }
 {
-    match answers::say_set(hello, out) {
+    match answers_reader::say_set(hello, out) {
         Said::Answer(n) => n as u64,
         Said::Handed(n, _) => n as u64,
         Said::Refused(n, _) => n as u64,
