@@ -14,8 +14,9 @@ use Rattle.frames.specs.Join.{roomy, joinOf, outAfter, marksAfter}
 use Rattle.frames.specs.Cut.{cutFrom, cut, framesOf, cutOf, afterCut}
 use Rattle.tls.specs.Make.{askName, makeWith, makeOf}
 use Rattle.fingerprint.specs.Reader.{readFields, read}
+use Rattle.fingerprint.proofs.Samples.{helloOf}
 use Rattle.alike.specs.Alike.{alike}
-use Rattle.alike.proofs.Samples.{helloOffering, suites-compared}
+use Rattle.alike.proofs.Samples.{suites-compared}
 use Rattle.crustdelta_c.specs.Calls.{lengthOf, readAnswer}
 
 -- ---- crustdelta_make
@@ -77,7 +78,7 @@ unfoldable pub compared : List ℕ → List ℕ → ℕ
 compared a b = cond (alike (read a) (read b)) 1 0
 
 -- compares_a_hello_with_itself: two hellos that are accepted, the suites of one in another order
-pub other-suites : compared (helloOffering (0x13 ∷ 0x01 ∷ 0x13 ∷ 0x02 ∷ [])) (helloOffering (0x13 ∷ 0x02 ∷ 0x13 ∷ 0x01 ∷ [])) ≡ 0
+pub other-suites : compared (helloOf [] (0x13 ∷ 0x01 ∷ 0x13 ∷ 0x02 ∷ []) []) (helloOf [] (0x13 ∷ 0x02 ∷ 0x13 ∷ 0x01 ∷ []) []) ≡ 0
 unfolding compared
 other-suites = rw suites-compared
 
