@@ -6,10 +6,10 @@ use mathlib.Core.List.{List, [], _∷_, _++_, reverse, reverse-cons, append-asso
 use native.Mathlib.Nat.{not-suc-le-zero}
 use native.Mathlib.Numerals.{add-one}
 use native.Mathlib.Omega.{arith}
-use lib.ListN.{length, take, drop, getD, length-append, length-reverse, drop-of-length-le, List·getD-append}
-use lib.Seq.{drop-cons, getD-at}
+use lib.ListN.{length, take, drop, getD, set, length-append, length-set, length-reverse, drop-of-length-le, List·getD-append}
+use lib.Seq.{drop-cons, getD-at, set-at}
 use borrow.Author.Tests.{le-leb, lt-leb, eq-eqb, ne-eqb}
-use borrow.Rule.Slice.PartMut.{midOf, putMid}
+use borrow.Rule.Slice.PartMut.{midOf, putMid, same-len-mid}
 use Rattle.wire.specs.Front.{front, Put}
 use Rattle.wire.proofs.FrontLaws.{front-none, lent-front}
 use Rattle.wire.proofs.ListLaws.{lt-or-le}
@@ -97,15 +97,28 @@ module _ (s : List ℕ) (b k : ℕ) where
   pub run-end : length s ≤ k → equalFront b (drop k (reverse s)) ≡ 0
   run-end h = equal-end b (reverse s) k (omega (arith, length-reverse s))
 
--- ---- a text of three pieces: the first stands, the parts after it were lent, written over and given back
+-- ---- an element stored after what stands; then the part `&mut o[n + 1..]` after it was lent, written over and given back
 
-pub two-lent :
-    (a b d old o p q : List ℕ) (n m k l : ℕ) → length a ≡ n → n + length b ≡ m → o ≡ front a old
-    → k ≡ length o - n → p ≡ front b (midOf n k o) → l ≡ length (putMid n k o p) - m → q ≡ front d (midOf m l (putMid n k o p))
-    → putMid m l (putMid n k o p) q ≡ front (a ++ (b ++ d)) old
-two-lent a b d old o p q n m k l x y e f g h i =
-    lent-front (a ++ b) d old (putMid n k o p) q m l (rw (length-append, x) y) (lent-front a b old o p n k x e f g) h i
-    ∙ ap (λ (t : List ℕ). front t old) (append-assoc a b d)
+pub stored-after : (a old o : List ℕ) (b n : ℕ) → length a ≡ n → n < length old → o ≡ front a old → set o n b ≡ front (a ++ (b ∷ [])) old
+unfolding front
+stored-after a old o b n e h f =
+    let rest : drop (length a) old ≡ getD old n 0 ∷ drop (suc n) old = rw e (drop-cons old n 0 h) in
+    let long : length (a ++ (b ∷ [])) ≡ suc n = rw (length-append, e) (omega arith) in
+    rw (f, rest, set-at a (getD old n 0) (drop (suc n) old) b n e, long, append-assoc)
+
+module _ (o q : List ℕ) (b n : ℕ) where
+  abbrev after : ℕ
+  after = length (set o n b) - (n + 1)
+
+  pub stored-lent :
+      (a d old : List ℕ) → length a ≡ n → n < length old → o ≡ front a old → q ≡ front d (midOf (n + 1) after (set o n b))
+      → putMid (n + 1) after (set o n b) q ≡ front (a ++ (b ∷ d)) old
+  stored-lent a d old e h f i =
+      lent-front (a ++ (b ∷ [])) d old (set o n b) q (n + 1) after (rw (length-append, e)) (stored-after a old o b n e h f) refl i
+      ∙ ap (λ (t : List ℕ). front t old) (append-assoc a (b ∷ []) d)
+
+  pub stored-lent-same : length q ≡ length (midOf (n + 1) after (set o n b)) → length (putMid (n + 1) after (set o n b) q) ≡ length o
+  stored-lent-same e = same-len-mid (n + 1) after (set o n b) q e ∙ length-set o n b
 
 -- ---- a run's text
 

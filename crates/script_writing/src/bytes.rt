@@ -65,7 +65,7 @@ fn put_run(out: &mut [u8], times: u64, byte: u8) -> usize
         return 0;
     }
     put_decimal(out, times);
-    wire::put_bytes(&mut out[width..], b"*");
+    out[width] = b'*';
     put_pair(&mut out[width + 1..], byte);
     width + 3
 }
@@ -82,7 +82,7 @@ fn put_joined(out: &mut [u8], head: &[u8], times: u64, byte: u8) -> usize
         return 0;
     }
     let at = put_hex(out, head);
-    wire::put_bytes(&mut out[at..], b"+");
+    out[at] = b'+';
     put_run(&mut out[at + 1..], times, byte);
     at + after
 }

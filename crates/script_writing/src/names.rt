@@ -16,9 +16,9 @@ fn put_quoted(out: &mut [u8], name: &[u8]) -> usize
     if out.len() - 2 < n {
         return 0;
     }
-    wire::put_bytes(out, b"\"");
+    out[0] = b'"';
     wire::put_bytes(&mut out[1..], name);
-    wire::put_bytes(&mut out[n + 1..], b"\"");
+    out[n + 1] = b'"';
     n + 2
 }
 

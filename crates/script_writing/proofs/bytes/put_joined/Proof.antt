@@ -1,16 +1,15 @@
 -- `script_writing::bytes::put_joined` meets its contract: the hex, the plus and the run are written one after the other. Assumes nothing.
 use Prim.Native.Nat.{_+_, _*_, _≤_}
-use mathlib.Core.Path.{_≡_, refl, sym, _∙_}
-use mathlib.Core.List.{[], _∷_}
+use mathlib.Core.Path.{_≡_, sym, _∙_}
 use native.Mathlib.Omega.{arith}
-use lib.ListN.{length}
+use lib.ListN.{length, length-take, length-drop, length-set}
 use borrow.Author.Needs.{needs}
 use Rattle.wire.specs.Front.{Put}
 use Rattle.script.specs.Scan.{plus}
 use Rattle.script_writing.specs.Hex.{hexText}
 use Rattle.script_writing.specs.Shown.{runText, joinedText}
 use Rattle.script_writing.proofs.HexLaws.{length-hexText}
-use Rattle.script_writing.proofs.ShownLaws.{written, not-written, was-written, two-lent, length-runText, length-joined-run}
+use Rattle.script_writing.proofs.ShownLaws.{written, not-written, was-written, stored-lent, stored-lent-same, length-runText, length-joined-run}
 use Rattle.script_writing.proofs.bytes.put_joined.Statement.{statement}
 use Rattle.script_writing.proofs.bytes.put_joined.Tie as tie
 
@@ -56,48 +55,39 @@ returns-2 c =
       c .if2 .taken,
     ))
 
-put-bytes-requires : tie.Need-put-bytes-requires
-put-bytes-requires c κs = omega (arith, place (c .before .before .before .before), fits (c .before .before .before .before .before .before))
+slice-write-out : tie.Need-slice-write-out
+slice-write-out c = omega (arith, place (c .before .before), fits (c .before .before .before .before))
 
 sub-put-run : tie.Need-sub-put-run
-sub-put-run c =
-    omega (
-      arith,
-      place (c .before .before .before .before .before .before .before),
-      fits
-          (c .before .before .before .before .before .before .before .before .before),
-    )
+sub-put-run c = simp length-set (omega (arith, place (c .before .before), fits (c .before .before .before .before)))
 
 part-put-run-start : tie.Need-part-put-run-start
-part-put-run-start c =
-    omega (
-      arith,
-      place (c .before .before .before .before .before .before .before),
-      fits
-          (c .before .before .before .before .before .before .before .before .before),
-    )
+part-put-run-start c = simp length-set (omega (arith, place (c .before .before), fits (c .before .before .before .before)))
+
+same-length : tie.Need-same-length
+same-length c =
+    let hex = c .before .before .before .before .before .before .put-hex in
+    let run = c .before .before .put-run in
+    stored-lent-same (hex .last .0) (run .last .0) plus (hex .result) (run .kept .0) ∙ hex .kept .0
 
 returns-3 : tie.Need-returns-3
 unfolding joinedText
 returns-3 c =
-    let start = c .before .before .before .before .before .before .before .before .before .before .before .before .before .before .before .before .before .before in
-    let put-bytes = c .before .before .before .before .before .before .put-bytes in
-    let put-hex = c .before .before .before .before .before .before .before .before .before .before .before .put-hex in
-    let decimal-width = c .before .before .before .before .before .before .before .before .before .before .before .before .before .before .before .decimal-width in
-    let h = start .args .head .now in
-    let text = runText (start .args .times) (start .args .byte) in
-    let at = put-hex .result in
-    let p = hex (c .before .before .before .before .before .before .before .before .before .before .before) in
-    let w = place (c .before .before .before .before .before .before .before .before .before .before .before) in
-    let f = fits (c .before .before .before .before .before .before .before .before .before .before .before .before .before) in
-    let n = length-joined-run h (start .args .times) (start .args .byte) (decimal-width .result) (decimal-width .ensures .0) in
-    let run = was-written text (c .before .before .put-run .result) _ (c .before .before .put-run .last .0)
-    (c .before .before .put-run .ensures)
-    (omega (arith, w, f, length-runText (start .args .times) (start .args .byte), decimal-width .ensures .0)) in
-    written (joinedText h text) (at + (decimal-width .result + 4)) (start .args .out .now) _ (omega (arith, n, f)) (omega (arith, n, w))
-    (two-lent (hexText h) (plus ∷ []) text (start .args .out .now) (put-hex .last .0) (put-bytes .last .0)
-    (c .before .before .put-run .last .0) at (at + 1) _ _ (sym (p .count)) refl (p .output) refl (put-bytes .ensures .output) refl
-    (run .output))
+    let args = c .before .before .before .before .before .before .before .before .before .before .before .before .before .args in
+    let old = args .out .now in
+    let h = args .head .now in
+    let text = runText (args .times) (args .byte) in
+    let width = c .before .before .before .before .before .before .before .before .before .before .decimal-width in
+    let at = c .before .before .before .before .before .before .put-hex .result in
+    let run = c .before .before .put-run in
+    let p = hex (c .before .before .before .before .before .before) in
+    let w = place (c .before .before .before .before .before .before) in
+    let f = fits (c .before .before .before .before .before .before .before .before) in
+    let n = length-joined-run h (args .times) (args .byte) (width .result) (width .ensures .0) in
+    let whole = was-written text (run .result) _ (run .last .0) (run .ensures)
+    (simp (length-take, length-drop, length-set) (omega (arith, w, f, length-runText (args .times) (args .byte), width .ensures .0))) in
+    written (joinedText h text) (at + (width .result + 4)) old _ (omega (arith, n, f)) (omega (arith, n, w))
+    (stored-lent (c .before .before .before .before .before .before .put-hex .last .0) (run .last .0) plus at (hexText h) text old (sym (p .count)) (omega (arith, w, f)) (p .output) (whole .output))
 
 pub put-joined-spec : {M : Type 1} → statement M
 put-joined-spec =
@@ -109,16 +99,12 @@ put-joined-spec =
     (λ c. search needs)  -- sub-if2
     returns-2
     (λ c κs. search needs)  -- put-hex-requires
-    (λ c. search needs)  -- sub-put-bytes
-    (λ c. search needs)  -- part-put-bytes-start
-    (λ c. search needs)  -- part-put-bytes-end
-    (λ c. search needs)  -- slice-aggregate-put-bytes
-    put-bytes-requires
+    slice-write-out
     (λ c. search needs)  -- add-put-run
     sub-put-run
     part-put-run-start
     (λ c. search needs)  -- part-put-run-end
     (λ c κs. search needs)  -- put-run-requires
     (λ c. search needs)  -- add-result
-    (λ c. search needs)  -- same-length
+    same-length
     returns-3)
