@@ -1,6 +1,6 @@
 -- A listing that was written is what `show` and `show-frames` say, where its stop is the definition's. Assumes nothing.
 use Prim.Native.Nat.{ℕ, _≤_}
-use mathlib.Core.Path.{_≡_, sym, _∙_, subst}
+use mathlib.Core.Path.{_≡_, subst}
 use mathlib.Core.List.{List, _++_}
 use mathlib.Core.Option.{Option, some}
 use native.Mathlib.Omega.{arith}

@@ -1,8 +1,7 @@
 -- Closed bodies: what the questions say of them. Each contract is an equation with its question, so a program that answers one of them
 -- otherwise does not meet it; the comments name such programs as ruled out. Assumes nothing.
-use Prim.Native.Nat.{ℕ}
 use mathlib.Core.Path.{_≡_, refl}
-use mathlib.Core.List.{List, [], _∷_, map}
+use mathlib.Core.List.{[], _∷_, map}
 use Rattle.wire.specs.Numbers.{number, numberOn}
 use Rattle.fingerprint_bodies.specs.Entries.{bind, taken, numberAt, vectorAt, whole, first, entries, allEntries}
 use Rattle.fingerprint_bodies.specs.Forms.{wordsIn, evenWords, wordList, oneShare, keyShares}

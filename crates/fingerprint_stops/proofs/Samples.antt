@@ -2,7 +2,7 @@
 -- answers one of them otherwise does not meet it; the comments name such programs as ruled out. Assumes nothing.
 use mathlib.Core.Path.{_≡_, refl}
 use Prim.Native.Nat.{ℕ}
-use mathlib.Core.List.{List, [], _∷_, _++_, map}
+use mathlib.Core.List.{List, [], _∷_, map}
 use mathlib.Core.Option.{none, some}
 use lib.ListN.{replicate}
 use Rattle.wire.specs.Numbers.{digits, number, numberOn}

@@ -1,5 +1,5 @@
 // The joiner: frames in any order, with equal overlap, to the stream that they carry.
-ghost use Prim.Native.Nat.{_+_, _≤_, _<_, max};
+ghost use Prim.Native.Nat.{_≤_, max};
 ghost use mathlib.Core.Path.{_≡_};
 ghost use lib.ListN.{length, replicate};
 ghost use Rattle.frames.specs.Join.{limit, roomy, Joins};

@@ -1,6 +1,5 @@
 // One frame, read from the front of bytes.
 ghost use Prim.Native.Nat.{_≤_};
-ghost use mathlib.Core.Path.{_≡_};
 ghost use lib.ListN.{length};
 ghost use Rattle.frames.specs.Read.{FrameFound, CryptoFound};
 use varint::Got;

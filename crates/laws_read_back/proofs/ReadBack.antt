@@ -1,5 +1,5 @@
 -- WHAT IS MADE IS A WELL-FORMED CLIENTHELLO, AND ITS REPORT SHOWS THE PROFILE AND THE NAME. Assumes nothing.
-use Prim.Native.Nat.{ℕ, _+_, _≤_}
+use Prim.Native.Nat.{ℕ, _≤_}
 use mathlib.Core.Path.{_≡_, refl, sym, ap}
 use mathlib.Core.Bool.{Bool, true, false, cond}
 use mathlib.Core.List.{List, [], _∷_, _++_, map, append-assoc}

@@ -1,5 +1,4 @@
 // The bytes of a file, for a piece `@path`.
-ghost use mathlib.Core.Path.{_≡_};
 ghost use Prim.Native.Nat.{_≤_};
 ghost use lib.ListN.{length};
 use crate::bytes::Operand;

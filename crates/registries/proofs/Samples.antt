@@ -1,6 +1,6 @@
 -- Names that numbers have, and one that has none. Assumes nothing.
 use mathlib.Core.Path.{_≡_, refl}
-use mathlib.Core.List.{List, [], _∷_, map}
+use mathlib.Core.List.{[], _∷_, map}
 use Prim.Native.Nat.{ℕ}
 use Rattle.script.specs.Scan.{text, distance, findOf}
 use Rattle.script.specs.Words.{wordFrom, wordOf}

@@ -1,6 +1,6 @@
 -- Parts written one after the other: loops that write a label and the parts of a list. Assumes nothing.
 use Prim.Native.Nat.{ℕ, _+_, _-_, _<_}
-use mathlib.Core.Path.{_≡_, refl, sym, ap, _∙_, subst}
+use mathlib.Core.Path.{_≡_, refl, sym, ap, _∙_}
 use mathlib.Core.List.{List, [], _∷_, _++_, map, append-assoc, append-nil, map-append}
 use native.Mathlib.Numerals.{add-one}
 use lib.ListN.{length, take, getD}

@@ -7,7 +7,7 @@ use Rattle.wire.specs.Numbers.{numberOn, number}
 use Rattle.varint.specs.Varint.{classAt, readOf}
 use Rattle.script_writing.specs.Shown.{equalFront}
 use Rattle.frames.specs.Read.{readCrypto, readFrame}
-use Rattle.show_lines.specs.Lines.{Row, row}
+use Rattle.show_lines.specs.Lines.{row}
 use Rattle.show_marks.specs.Text.{stopFrom, marks}
 use Rattle.show_frames.specs.Frames.{zeros, lineSize, frameRows, rowsOf, endFrom, shownRows}
 

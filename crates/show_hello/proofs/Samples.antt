@@ -1,7 +1,7 @@
 -- The lines of short inputs, and which of them is marked. Assumes nothing.
 use mathlib.Core.Path.{_≡_, refl}
 use mathlib.Core.Bool.{true, false}
-use mathlib.Core.List.{List, [], _∷_, map}
+use mathlib.Core.List.{[], _∷_, map}
 use Rattle.wire.specs.Numbers.{numberOn, number}
 use Rattle.show_lines.specs.Grammar.{grammar, column}
 use Rattle.show_lines.specs.Lines.{row, partEnd, fixedFront, lineOf, lineAt, settled, due, next, start, listed, most, rows}

@@ -1,11 +1,9 @@
 -- Marks, fronts of lines and verdicts. Each rules out a program that writes something else. Assumes nothing.
 use mathlib.Core.Path.{_≡_, refl}
-use mathlib.Core.Bool.{Bool, true, false}
-use mathlib.Core.List.{List, [], _∷_, map}
-use mathlib.Core.Option.{none, some}
+use mathlib.Core.Bool.{true, false}
+use mathlib.Core.List.{[], _∷_, map}
 use Prim.Native.Nat.{ℕ}
 use Rattle.wire.specs.Numbers.{digits}
-use Rattle.wire.specs.Stops.{stopped}
 use Rattle.script.specs.Scan.{text}
 use Rattle.script_writing.specs.Digits.{places}
 use Rattle.script_writing.specs.Decimal.{decimalWidth, decimalDigits, decimalText}

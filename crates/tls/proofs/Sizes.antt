@@ -1,6 +1,6 @@
 -- How many bytes a hello has and how many it draws, whatever the order that was drawn: the sums over the profile. So the output and
 -- the tape that the maker asks for suffice. Assumes nothing.
-use Prim.Native.Nat.{ℕ, _+_, _*_, _≤_, _<_}
+use Prim.Native.Nat.{ℕ, _+_, _≤_, _<_}
 use mathlib.Core.Path.{_≡_, refl, sym, ap, _∙_}
 use mathlib.Core.Bool.{Bool, true, false, true≢false}
 use mathlib.Core.List.{List, [], _∷_, _++_}
@@ -8,24 +8,22 @@ use native.Mathlib.Omega.{arith}
 use borrow.Author.Tests.{eq-eqb, ne-eqb, eqb-true, eqb-false}
 use lib.ListN.{length, length-append}
 use lib.Dec.{eqb, lit<}
-use Rattle.wire.specs.Numbers.{digits}
-use Rattle.wire.specs.Vectors.{vector, words}
+use Rattle.wire.specs.Vectors.{vector}
 use Rattle.wire.specs.Sums.{indicator, total, count, distinct}
-use Rattle.wire.proofs.NumberLaws.{length-digits}
-use Rattle.wire.proofs.VectorLaws.{length-vector, length-words}
+use Rattle.wire.proofs.VectorLaws.{length-vector}
 use Rattle.wire.proofs.SumLaws.{total-le, count-cons, count-permutes, distinct-once}
 use Rattle.profiles.specs.Profile.{Profile}
-use Rattle.profiles.specs.Sizes.{sessionLength, afterOrder, extensionExtent, helloLength, helloDrawn, longest, tapeNeeded}
+use Rattle.profiles.specs.Sizes.{afterOrder, extensionExtent, helloLength, helloDrawn, longest, tapeNeeded}
 use Rattle.profiles.specs.Test.{passes}
 use Rattle.profiles.proofs.TestLaws.{passed}
-use Rattle.tape.specs.Tape.{randBytes, nextU64, payloadLength}
+use Rattle.tape.specs.Tape.{nextU64, payloadLength}
 use Rattle.tape.specs.Part.{Part}
-use Rattle.tape.proofs.DrawLaws.{length-randBytes}
 use Rattle.tape.proofs.DrawnNumbers.{payload-least, payload-most}
 use Rattle.tls.specs.Hello.{buildExtension, buildExtensions, order, fields, block, body, hello, echPlace, payload}
 use Rattle.tls.proofs.ExtentLaws.{drawn-same, payload-grows, extent-grows}
 use Rattle.tls.proofs.Extents.{Extends, extension-extent}
 use Rattle.tls.proofs.Sent.{order-permutes}
+use Rattle.tls.proofs.HelloLaws.{length-fields}
 
 -- ---- all extensions, in any order
 
@@ -76,30 +74,6 @@ extensions-extent p name scid tape (t ∷ ts) at pay once h =
       long = omega (arith, length-append (a .bytes) ((buildExtensions p name scid tape ts (a .next)) .bytes), first .long, rest .long);
       ends = omega (arith, first .ends, rest .ends, drawn-same p n s pay 0 0 pay t (λ e. refl));
     }
-
--- ---- the fields before the block
-
-length-fields : (p : Profile) (tape : List ℕ) → length (fields p tape) ≡ 39 + sessionLength p + 2 * length (p .cipherSuites)
-unfolding fields
-length-fields p tape =
-    let random : List ℕ = randBytes 32 tape 0 in
-    let session : List ℕ = vector 1 (randBytes (sessionLength p) tape 32) in
-    let suites : List ℕ = vector 2 (words (p .cipherSuites)) in
-    let compression : List ℕ = vector 1 (0x00 ∷ []) in
-    omega (
-      arith,
-      length-append (digits 256 2 0x0303) (random ++ (session ++ (suites ++ compression))),
-      length-append random (session ++ (suites ++ compression)),
-      length-append session (suites ++ compression),
-      length-append suites compression,
-      length-digits 256 2 0x0303,
-      length-randBytes 32 tape 0,
-      length-vector 1 (randBytes (sessionLength p) tape 32),
-      length-randBytes (sessionLength p) tape 32,
-      length-vector 2 (words (p .cipherSuites)),
-      length-words (p .cipherSuites),
-      length-vector 1 (0x00 ∷ []),
-    )
 
 -- ---- the hello, for every profile whose types are once each
 

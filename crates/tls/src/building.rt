@@ -1,6 +1,5 @@
 // Extensions by type, each to the part of the output that starts where the last one stopped.
 ghost use mathlib.Core.Path.{_≡_};
-ghost use mathlib.Core.List.{[], _∷_};
 ghost use Prim.Native.Nat.{_≤_, _<_};
 ghost use lib.ListN.{length};
 ghost use Rattle.wire.specs.Front.{Put};

@@ -1,6 +1,5 @@
 -- `say_frames` says what the frame writer answers, with the buffer as it left it, and hands back the frames. Assumes nothing.
 use mathlib.Core.Path.{_≡_, sym}
-use Prim.Native.Nat.{_-_}
 use native.Mathlib.Omega.{arith}
 use mathlib.Core.List.{[], _∷_}
 use denote.Ref.{now}
