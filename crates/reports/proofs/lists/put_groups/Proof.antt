@@ -1,21 +1,25 @@
 -- `reports::lists::put_groups` meets its contract: the label and the groups before place i stand in the output. Assumes nothing.
-use Prim.Native.Nat.{ℕ, _-_, _≤_, _<_, zero-le}
-use mathlib.Core.Path.{_≡_, refl, sym, ap}
-use mathlib.Core.List.{List, _∷_, map, map-map}
-use lib.ListN.{length, take}
+use Prim.Native.Nat.{ℕ, _-_, _<_}
+use mathlib.Core.Path.{refl}
+use mathlib.Core.List.{List, [], _∷_, map}
+use lib.ListN.{length, take, getD}
 use Rattle.script_writing.specs.Hex.{wordText}
+use Rattle.script_writing.proofs.AnswerLaws.{written-one}
+use Rattle.profiles.specs.declared.Group.{Group}
 use Rattle.fingerprint_lists.specs.Arrays.{group}
 use Rattle.fingerprint.specs.InRange.{groupNumber, groupNumbers}
-use Rattle.reports.proofs.PartLaws.{Grown, grown-none, grown-one}
-use Rattle.script_writing.proofs.AnswerLaws.{all-as}
+use Rattle.reports.proofs.PartLaws.{Listed, list-start, list-next, list-end, numbers-next}
 use borrow.Author.Needs.{needs}
 use native.Mathlib.Omega.{arith}
 use Rattle.reports.proofs.lists.put_groups.Statement.{statement}
 use Rattle.reports.proofs.lists.put_groups.Tie as tie
 
+abbrev parts : List Group → ℕ → List (List ℕ)
+parts items i = map wordText (groupNumbers items i)
+
 abbrev Inv-loop : tie.InvT-loop
 Inv-loop out₀ label count items at₀ i₀ out at i =
-    (i ≤ count) × (at ≤ length out) × (length out ≡ length out₀) × Grown label (map (λ x. wordText (groupNumber x)) (take i items)) at₀ out₀ at out
+    Listed label (parts items) count at₀ out₀ at out i
 
 abbrev μ-loop : tie.MeasureT-loop
 μ-loop out₀ label count items at₀ i₀ out at i =
@@ -23,32 +27,27 @@ abbrev μ-loop : tie.MeasureT-loop
 
 loop-holds : tie.Need-loop-holds Inv-loop μ-loop
 loop-holds c =
-    let text = (c .before .before .put-text) in
-    (zero-le, search needs, refl, grown-none (c .before .before .before .before .before .before .args .label .now) (text .result) (text .last .0))
+    let args = c .before .before .before .before .before .before .args in
+    let text = c .before .before .put-text in
+    list-start (args .label .now) (parts (args .t3)) (args .count) (text .result) (text .last .0) refl (search needs)
 
 loop-again : tie.Need-loop-again Inv-loop μ-loop
 loop-again c =
-    let args = (c .before .before .before .before .before .before .before .before .before .before .before .before .before .args) in
-    let text = (c .before .before .before .before .before .before .before .before .before .put-text) in
-    let l = (c .before .before .before .before .before .before .loop) in
-    let w = (c .before .before .put-word) in
-    let inside : l .i < length (args .t3) = omega (arith, (c .before .before .before .before .before .before .before .before .before .before .before .before .before .pre .long), (c .before .before .before .before .before .before .before .before .before .before .before .before .before .pre .few)) in (
-      search needs,
-      search needs,
-      search needs,
-      grown-one (args .t3) (l .i) (group 0) inside (λ x. wordText (groupNumber x)) (args .label .now) (text .result) (l .at) (w .result) _ (text .last .0) (l .out) (w .last .0)
-          (l .inv .3) refl (w .ensures),
-    )
+    let args = c .before .before .before .before .before .before .before .before .before .before .before .before .before .args in
+    let text = c .before .before .before .before .before .before .before .before .before .put-text in
+    let l = c .before .before .before .before .before .before .loop in
+    let word = c .before .before .put-word in
+    let inside : l .i < length (args .t3) = omega (arith, c .before .before .before .before .before .before .before .before .before .before .before .before .before .pre .long, c .before .before .before .before .before .before .before .before .before .before .before .before .before .pre .few) in
+    let t : List ℕ = wordText (groupNumber (getD (args .t3) (l .i) (group 0))) in
+    list-next (args .label .now) (parts (args .t3)) (args .count) (text .result) (text .last .0) (l .at) (l .i) (l .out) (l .inv) (word .result) (t ∷ []) (word .last .0)
+    (c .before .before .before .before .before .loop-test .taken) (numbers-next (args .t3) (l .i) (group 0) inside wordText groupNumber) (word .kept .0) (written-one t (word .result) _ (word .last .0) (word .ensures))
 
 returns : tie.Need-returns Inv-loop μ-loop
 returns c =
-    let args = (c .before .before .before .before .before .before .before .before .args) in
-    let text = (c .before .before .before .before .put-text) in
-    let l = (c .before .loop) in
-    let e : l .i ≡ args .count = omega arith in
-    all-as (args .label .now ∷ map (λ x. wordText (groupNumber x)) (take (l .i) (args .t3))) (args .label .now ∷ map wordText (groupNumbers (args .t3) (args .count))) (l .at) (args .out .now) (l .out)
-    (ap (λ (t : List (List ℕ)). args .label .now ∷ t) (rw e (sym (map-map wordText groupNumber (take (args .count) (args .t3))))))
-    (l .inv .3 (args .out .now) (text .ensures))
+    let args = c .before .before .before .before .before .before .before .before .args in
+    let text = c .before .before .before .before .put-text in
+    let l = c .before .loop in
+    list-end (args .label .now) (parts (args .t3)) (args .count) (text .result) (text .last .0) (l .at) (l .i) (l .out) (l .inv) (args .out .now) (c .loop-test .left) (text .ensures)
 
 pub put-groups-spec : {M : Type 1} → statement M
 put-groups-spec =

@@ -1,21 +1,24 @@
 -- `reports::names::put_protocols` meets its contract: the label and the names before place i stand in the output. Assumes nothing.
-use Prim.Native.Nat.{_-_, _≤_, _<_, zero-le}
-use mathlib.Core.Path.{_≡_, refl}
-use mathlib.Core.List.{_∷_}
+use Prim.Native.Nat.{ℕ, _-_, _<_}
+use mathlib.Core.Path.{refl}
+use mathlib.Core.List.{List}
 use lib.ListN.{length, take}
+use Rattle.fingerprint_lists.specs.declared.Span.{Span}
 use Rattle.fingerprint_lists.specs.Arrays.{span}
 use Rattle.reports.specs.Lines.{each, alpnLabel}
 use Rattle.reports.specs.Code.{spanParts}
-use Rattle.reports.proofs.PartLaws.{Grown, grown-none, grown-some}
-use Rattle.script_writing.proofs.AnswerLaws.{all-as}
+use Rattle.reports.proofs.PartLaws.{Listed, list-start, list-next, list-end, each-next}
 use borrow.Author.Needs.{needs}
 use native.Mathlib.Omega.{arith}
 use Rattle.reports.proofs.names.put_protocols.Statement.{statement}
 use Rattle.reports.proofs.names.put_protocols.Tie as tie
 
+abbrev parts : List ℕ → List Span → ℕ → List (List ℕ)
+parts h spans i = each (spanParts h) (take i spans)
+
 abbrev Inv-loop : tie.InvT-loop
 Inv-loop out₀ hello count spans at₀ i₀ out at i =
-    (i ≤ count) × (at ≤ length out) × (length out ≡ length out₀) × Grown alpnLabel (each (spanParts hello) (take i spans)) at₀ out₀ at out
+    Listed alpnLabel (parts hello spans) count at₀ out₀ at out i
 
 abbrev μ-loop : tie.MeasureT-loop
 μ-loop out₀ hello count spans at₀ i₀ out at i =
@@ -24,8 +27,9 @@ abbrev μ-loop : tie.MeasureT-loop
 loop-holds : tie.Need-loop-holds Inv-loop μ-loop
 unfolding each
 loop-holds c =
-    let text = (c .before .before .put-text) in
-    (zero-le, search needs, refl, grown-none alpnLabel (text .result) (text .last .0))
+    let args = c .before .before .before .before .before .before .before .args in
+    let text = c .before .before .put-text in
+    list-start alpnLabel (parts (args .hello .now) (args .t3)) (args .count) (text .result) (text .last .0) refl (search needs)
 
 array-copy-out-span : tie.Need-array-copy-out-span Inv-loop μ-loop
 array-copy-out-span c = omega (arith, (c .before .before .before .before .before .before .before .before .before .pre .0 .long), (c .before .before .before .before .before .before .before .before .before .pre .0 .few))
@@ -35,26 +39,20 @@ put-range-requires c κs = (c .before .before .before .before .before .before .b
 
 loop-again : tie.Need-loop-again Inv-loop μ-loop
 loop-again c =
-    let args = (c .before .before .before .before .before .before .before .before .before .before .before .before .before .before .args) in
-    let text = (c .before .before .before .before .before .before .before .before .before .put-text) in
-    let l = (c .before .before .before .before .before .before .loop) in
-    let w = (c .before .before .put-range) in
-    let inside : l .i < length (args .t3) = omega (arith, (c .before .before .before .before .before .before .before .before .before .before .before .before .before .before .pre .0 .long), (c .before .before .before .before .before .before .before .before .before .before .before .before .before .before .pre .0 .few)) in (
-      search needs,
-      search needs,
-      search needs,
-      grown-some (args .t3) (l .i) (span 0 0) inside (spanParts (args .hello .now)) alpnLabel (text .result) (l .at) (w .result) _ (text .last .0) (l .out) (w .last .0)
-          (l .inv .3) refl (w .ensures),
-    )
+    let args = c .before .before .before .before .before .before .before .before .before .before .before .before .before .before .args in
+    let text = c .before .before .before .before .before .before .before .before .before .put-text in
+    let l = c .before .before .before .before .before .before .loop in
+    let range = c .before .before .put-range in
+    let inside : l .i < length (args .t3) = omega (arith, c .before .before .before .before .before .before .before .before .before .before .before .before .before .before .pre .0 .long, c .before .before .before .before .before .before .before .before .before .before .before .before .before .before .pre .0 .few) in
+    list-next alpnLabel (parts (args .hello .now) (args .t3)) (args .count) (text .result) (text .last .0) (l .at) (l .i) (l .out) (l .inv) (range .result) _ (range .last .0)
+    (c .before .before .before .before .before .loop-test .taken) (each-next (args .t3) (l .i) (span 0 0) inside (spanParts (args .hello .now))) (range .kept .0) (range .ensures)
 
 returns : tie.Need-returns Inv-loop μ-loop
 returns c =
-    let args = (c .before .before .before .before .before .before .before .before .before .args) in
-    let l = (c .before .loop) in
-    let e : l .i ≡ args .count = omega arith in
-    all-as (alpnLabel ∷ each (spanParts (args .hello .now)) (take (l .i) (args .t3))) (alpnLabel ∷ each (spanParts (args .hello .now)) (take (args .count) (args .t3))) (l .at) (args .out .now) (l .out)
-    (rw e)
-    (l .inv .3 (args .out .now) (c .before .before .before .before .put-text .ensures))
+    let args = c .before .before .before .before .before .before .before .before .before .args in
+    let text = c .before .before .before .before .put-text in
+    let l = c .before .loop in
+    list-end alpnLabel (parts (args .hello .now) (args .t3)) (args .count) (text .result) (text .last .0) (l .at) (l .i) (l .out) (l .inv) (args .out .now) (c .loop-test .left) (text .ensures)
 
 pub put-protocols-spec : {M : Type 1} → statement M
 put-protocols-spec =
