@@ -8,6 +8,7 @@ use operands::Reading;
 use operands::inputs_room;
 use operands::kinds::ALIKE;
 use operands::kinds::FRAMES;
+use operands::kinds::JOIN;
 use operands::kinds::MAKE;
 use operands::kinds::NAME;
 use operands::kinds::NONE;
@@ -41,13 +42,13 @@ pub fn command(line: &[u8], kept: &[u8], last: &mut [u8], out: &mut [u8]) -> Sai
         return Said::Error(Fault::Count);
     }
     match read_value(line, command) {
-        Number::Value(value) => answer_inputs(line, command, value, kept, last, out),
+        Number::Value(value) => read_bytes(line, command, value, kept, last, out),
         Number::Malformed => Said::Error(Fault::NoNumber),
     }
 }
 
-// Reads the bytes that the command reads, and answers it.
-fn answer_inputs(
+// Reads the bytes that the command reads.
+fn read_bytes(
     line: &[u8],
     command: usize,
     value: u64,
@@ -67,7 +68,7 @@ fn answer_inputs(
     let b = read.second;
     let c = read.third;
     let all: &[u8] = &bytes;
-    answer(
+    read_buffers(
         line,
         command,
         value,
@@ -80,8 +81,8 @@ fn answer_inputs(
     )
 }
 
-// Answers a command whose operands are read, but for the buffers that it fills.
-fn answer<'a>(
+// Reads the buffers that the command fills.
+fn read_buffers<'a>(
     line: &[u8],
     command: usize,
     value: u64,
@@ -94,96 +95,76 @@ fn answer<'a>(
 ) -> Said
     ensures { λ r. ⌜ Fits (length (now (last .entry))) (length (now (out .entry))) r ⌝ }
 {
-    match command {
-        SIZE => answers::say_size(value, out),
-        READ => answers::say_read(first, out),
-        SPLIT => answers::say_split(value, first, last, out),
-        SHOW_FRAMES => answers_reader::say_show_frames(first, out),
-        REPORT => answers_reader::say_report(first, out),
-        SHOW => answers_reader::say_show(first, out),
-        NAME => answers_reader::say_name(first, second, last, out),
-        SET => answers_reader::say_set(first, out),
-        ALIKE => answers_reader::say_alike(first, second, out),
-        _ => answer_buffer(line, command, value, first, second, third, kept, last, out),
-    }
-}
-
-// Reads the first buffer that the command fills, and answers it.
-fn answer_buffer(
-    line: &[u8],
-    command: usize,
-    value: u64,
-    first: &[u8],
-    second: &[u8],
-    third: &[u8],
-    kept: &[u8],
-    last: &mut [u8],
-    out: &mut [u8],
-) -> Said
-    ensures { λ r. ⌜ Fits (length (now (last .entry))) (length (now (out .entry))) r ⌝ }
-{
     let mut buffer = room();
-    let read = read_buffer(line, command, 0, kept, &mut buffer);
-    let reading = read.reading;
+    let one = read_buffer(line, command, 0, kept, &mut buffer);
+    let reading = one.reading;
     if let Reading::Failed(fault) = reading {
         return Said::Error(fault);
     }
-    let n = read.count;
-    fill(
-        line,
+    let mut marks = room();
+    let two = read_buffer(line, command, 1, kept, &mut marks);
+    let reading2 = two.reading;
+    if let Reading::Failed(fault) = reading2 {
+        return Said::Error(fault);
+    }
+    let n = one.count;
+    let m = two.count;
+    answer(
         command,
         value,
         first,
         second,
         third,
         &mut buffer[0..n],
-        kept,
+        &mut marks[0..m],
         last,
         out,
     )
 }
 
-// Answers a command that fills a buffer.
-fn fill(
-    line: &[u8],
+// Answers a command whose operands are read.
+fn answer<'a>(
     command: usize,
     value: u64,
-    first: &[u8],
-    second: &[u8],
+    first: &'a [u8],
+    second: &'a [u8],
     third: &[u8],
     buffer: &mut [u8],
-    kept: &[u8],
+    marks: &mut [u8],
     last: &mut [u8],
     out: &mut [u8],
 ) -> Said
     ensures { λ r. ⌜ Fits (length (now (last .entry))) (length (now (out .entry))) r ⌝ }
 {
     match command {
+        SIZE => answers::say_size(value, out),
         WRITE => answers::say_write(value, buffer, out),
+        READ => answers::say_read(first, out),
         MAKE => answers::say_make(value, first, second, third, buffer, last, out),
+        JOIN => answers::say_join(first, buffer, marks, last, out),
         FRAMES => answers::say_frames(value, first, buffer, last, out),
-        _ => join(line, command, first, buffer, kept, last, out),
+        SPLIT => answers::say_split(value, first, last, out),
+        _ => answer_reader(command, first, second, last, out),
     }
 }
 
-// Answers the command that fills two buffers.
-fn join(
-    line: &[u8],
+// Answers a command of the reader.
+fn answer_reader<'a>(
     command: usize,
-    frames: &[u8],
-    buffer: &mut [u8],
-    kept: &[u8],
+    first: &'a [u8],
+    second: &'a [u8],
     last: &mut [u8],
     out: &mut [u8],
 ) -> Said
     ensures { λ r. ⌜ Fits (length (now (last .entry))) (length (now (out .entry))) r ⌝ }
 {
-    let mut marks = room();
-    let read = read_buffer(line, command, 1, kept, &mut marks);
-    let reading = read.reading;
-    if let Reading::Failed(fault) = reading {
-        return Said::Error(fault);
+    match command {
+        SHOW_FRAMES => answers_reader::say_show_frames(first, out),
+        REPORT => answers_reader::say_report(first, out),
+        SHOW => answers_reader::say_show(first, out),
+        NAME => answers_reader::say_name(first, second, last, out),
+        SET => answers_reader::say_set(first, out),
+        ALIKE => answers_reader::say_alike(first, second, out),
+        _ => Said::Error(Fault::NoCommand),
     }
-    let n = read.count;
-    answers::say_join(frames, buffer, &mut marks[0..n], last, out)
 }

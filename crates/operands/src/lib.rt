@@ -9,7 +9,9 @@ ghost use Rattle.operands.specs.Bounds.{InOrder};
 pub use bytes::Operand;
 pub use bytes::Reading;
 use bytes::read_operand;
+use bytes::whole;
 use kinds::MAKE;
+use kinds::buffers_of;
 use kinds::inputs_of;
 use kinds::numbers_of;
 use script::reading::Number;
@@ -137,10 +139,13 @@ pub fn read_inputs(line: &[u8], command: usize, kept: &[u8], out: &mut [u8]) -> 
     s
 }
 
-// Reads a buffer that a command fills, the one that has i others before it.
-pub fn read_buffer(line: &[u8], command: usize, i: u8, kept: &[u8], out: &mut [u8]) -> Operand
+// Reads a buffer that a command fills, the one that has i others before it; it is empty where the command fills no more than i.
+pub fn read_buffer(line: &[u8], command: usize, i: usize, kept: &[u8], out: &mut [u8]) -> Operand
     ensures { λ r. ⌜ r .count ≤ length (now (out .entry)) ⌝ }
 {
-    let place = 1 + numbers_of(command) + inputs_of(command) + i as usize;
+    if buffers_of(command) <= i {
+        return whole(0);
+    }
+    let place = 1 + numbers_of(command) + inputs_of(command) + i;
     read_operand(word_at(line, place), kept, out)
 }
