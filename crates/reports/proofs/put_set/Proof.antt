@@ -4,14 +4,8 @@ use borrow.Author.Needs.{needs}
 use Rattle.reports.proofs.put_set.Statement.{statement}
 use Rattle.reports.proofs.put_set.Tie as tie
 
-slice-aggregate-put-types : tie.Need-slice-aggregate-put-types
-slice-aggregate-put-types c = search needs
-
 put-types-requires : tie.Need-put-types-requires
 put-types-requires c κs = (c .before .before .before .before .pre)
-
-same-length : tie.Need-same-length
-same-length c = search needs
 
 returns : tie.Need-returns
 unfolding setText
@@ -19,4 +13,9 @@ returns c = (c .before .before .put-types .ensures)
 
 pub put-set-spec : {M : Type 1} → statement M
 put-set-spec =
-    tie.close (tie.spec slice-aggregate-put-types put-types-requires same-length returns)
+    tie.close
+    (tie.spec
+    (λ c. search needs)  -- slice-aggregate-put-types
+    put-types-requires
+    (λ c. search needs)  -- same-length
+    returns)

@@ -6,14 +6,8 @@ use Rattle.script.proofs.HexLaws.{hex-below}
 use Rattle.script.proofs.reading.hex_byte.Statement.{statement}
 use Rattle.script.proofs.reading.hex_byte.Tie as tie
 
-hex-digit-requires : tie.Need-hex-digit-requires
-hex-digit-requires c κs = search needs
-
 mul-result : tie.Need-mul-result
 mul-result c = omega (arith, c .hex-digit .ensures, hex-below (c .before .args .high) (c .before .pre .0))
-
-hex-digit-requires-2 : tie.Need-hex-digit-requires-2
-hex-digit-requires-2 c κs = search needs
 
 add-result : tie.Need-add-result
 add-result c =
@@ -33,4 +27,10 @@ returns c = omega (arith, c .before .hex-digit .ensures, c .hex-digit2 .ensures)
 
 pub hex-byte-spec : {M : Type 1} → statement M
 hex-byte-spec =
-    tie.close (tie.spec hex-digit-requires mul-result hex-digit-requires-2 add-result returns)
+    tie.close
+    (tie.spec
+    (λ c κs. search needs)  -- hex-digit-requires
+    mul-result
+    (λ c κs. search needs)  -- hex-digit-requires-2
+    add-result
+    returns)

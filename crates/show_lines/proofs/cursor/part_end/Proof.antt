@@ -6,9 +6,6 @@ use borrow.Author.Needs.{needs}
 use Rattle.show_lines.proofs.cursor.part_end.Statement.{statement}
 use Rattle.show_lines.proofs.cursor.part_end.Tie as tie
 
-column-requires : tie.Need-column-requires
-column-requires c κs = search needs
-
 returns : tie.Need-returns
 unfolding partEnd
 returns c = sym (in-suites _ _ _ _ _ _ (sym (c .before .column .ensures) ∙ c .match .keys1))
@@ -33,4 +30,11 @@ returns-5 c =
 
 pub part-end-spec : {M : Type 1} → statement M
 part-end-spec =
-    tie.close (tie.spec column-requires returns returns-2 returns-3 returns-4 returns-5)
+    tie.close
+    (tie.spec
+    (λ c κs. search needs)  -- column-requires
+    returns
+    returns-2
+    returns-3
+    returns-4
+    returns-5)

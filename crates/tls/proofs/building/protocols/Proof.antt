@@ -8,9 +8,6 @@ use Rattle.tls.proofs.BuildLaws.{arrays}
 use Rattle.tls.proofs.building.protocols.Statement.{statement}
 use Rattle.tls.proofs.building.protocols.Tie as tie
 
-slice-aggregate-ext-alpn : tie.Need-slice-aggregate-ext-alpn
-slice-aggregate-ext-alpn c = search needs
-
 ext-alpn-requires : tie.Need-ext-alpn-requires
 unfolding total
 ext-alpn-requires c κs =
@@ -18,12 +15,11 @@ ext-alpn-requires c κs =
     let profile = start .args .profile in
     (omega (arith, start .pre, length-alpn (profile .alpn ∷ [])), omega (arith, (arrays profile (start .good .1 .0)) .protocol))
 
-same-length : tie.Need-same-length
-same-length c = search needs
-
-returns : tie.Need-returns
-returns c = search needs
-
 pub protocols-spec : {M : Type 1} → statement M
 protocols-spec =
-    tie.close (tie.spec slice-aggregate-ext-alpn ext-alpn-requires same-length returns)
+    tie.close
+    (tie.spec
+    (λ c. search needs)  -- slice-aggregate-ext-alpn
+    ext-alpn-requires
+    (λ c. search needs)  -- same-length
+    (λ c. search needs))  -- returns

@@ -11,9 +11,6 @@ ext-application-settings-requires : tie.Need-ext-application-settings-requires
 ext-application-settings-requires c κs =
     omega (arith, length-application-settings, rw (c .before .if1 .taken) at (c .before .before .before .pre))
 
-same-length : tie.Need-same-length
-same-length c = search needs
-
 returns : tie.Need-returns
 returns c = rw (c .before .before .before .before .if1 .taken) (c .before .before .ext-application-settings .ensures)
 
@@ -22,4 +19,9 @@ returns-2 c = rw (c .if1 .left) (put-none (now (c .before .before .args .out)))
 
 pub settings-spec : {M : Type 1} → statement M
 settings-spec =
-    tie.close (tie.spec ext-application-settings-requires same-length returns returns-2)
+    tie.close
+    (tie.spec
+    ext-application-settings-requires
+    (λ c. search needs)  -- same-length
+    returns
+    returns-2)

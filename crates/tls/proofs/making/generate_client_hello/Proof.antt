@@ -11,15 +11,6 @@ returns c =
     let args = c .before .before .before .before .before .args in
     refuses-browser (args .browser) (now (args .name)) (now (args .scid)) (now (args .tape)) (now (args .out)) (c .if1 .taken)
 
-for-browser-requires : tie.Need-for-browser-requires
-for-browser-requires c κs = search needs
-
-make-with-requires : tie.Need-make-with-requires
-make-with-requires c κs = search needs
-
-same-length : tie.Need-same-length
-same-length c = search needs
-
 returns-2 : tie.Need-returns-2
 returns-2 c =
     let if1 = c .before .before .before .before .before .if1 in
@@ -30,4 +21,10 @@ returns-2 c =
 
 pub generate-client-hello-spec : {M : Type 1} → statement M
 generate-client-hello-spec =
-    tie.close (tie.spec returns for-browser-requires make-with-requires same-length returns-2)
+    tie.close
+    (tie.spec
+    returns
+    (λ c κs. search needs)  -- for-browser-requires
+    (λ c κs. search needs)  -- make-with-requires
+    (λ c. search needs)  -- same-length
+    returns-2)

@@ -19,9 +19,6 @@ returns-2 c =
     let pre = c .before .before .before .pre in
     simp (le-leb _ _ (if1 .left), lt-leb _ _ (rw (pre .0 .tape) at (c .if2 .taken)))
 
-add-if3 : tie.Need-add-if3
-add-if3 c = search needs
-
 mul-if3 : tie.Need-mul-if3
 mul-if3 c =
     let args = c .before .before .before .before .before .args in
@@ -60,4 +57,12 @@ returns-4 c =
 
 pub room-refusal-spec : {M : Type 1} → statement M
 room-refusal-spec =
-    tie.close (tie.spec returns returns-2 add-if3 mul-if3 add-if3-2 returns-3 returns-4)
+    tie.close
+    (tie.spec
+    returns
+    returns-2
+    (λ c. search needs)  -- add-if3
+    mul-if3
+    add-if3-2
+    returns-3
+    returns-4)
