@@ -1,5 +1,5 @@
-// Runs bench scripts: takes lines from a descriptor and answers each on standard output. The work on text is in the crates `script`
-// and `lines`, each command with its operands in `commands`, its answer in `answers`; here are the lines and the calls of the system.
+// Runs bench scripts: takes lines from a descriptor and answers each on standard output. The work on text is in the crate `script`,
+// each command with its operands in `commands`, its answer in `answers`; here are the lines and the calls of the system.
 mod notes;
 
 use answers::Fault;
@@ -12,6 +12,7 @@ use script_writing::texts::put_text;
 ghost use mathlib.Core.Path.{_≡_};
 ghost use Prim.Native.Nat.{_≤_};
 ghost use lib.ListN.{length};
+ghost use Rattle.answers.specs.Said.{saidCount, handedCount};
 ghost use Rattle.runner.specs.Bounds.{Turned};
 
 // The script language allows a line of 524,288 bytes and an operand of 131,072. What is handed back is no longer than an operand. The
@@ -24,28 +25,40 @@ const LAST: usize = 131072;
 
 const ANSWER: usize = 1048576;
 
-// The buffer of an answer. As a call of its own it costs the proof of its user nothing, where the array itself would.
+// The buffers. As a call of its own an array costs the proof of its user nothing, where the array itself would.
+fn chunk_room() -> [u8; CHUNK] {
+    [0u8; CHUNK]
+}
+
+fn line_room() -> [u8; LINE] {
+    [0u8; LINE]
+}
+
+fn last_room() -> [u8; LAST] {
+    [0u8; LAST]
+}
+
 fn answer_room() -> [u8; ANSWER] {
     [0u8; ANSWER]
 }
 
 // Answers every line of the script that the descriptor gives; with notes, which begin with `#`, where they are asked for.
 pub fn run(fd: i32, notes: bool) {
-    let mut chunk = [0u8; CHUNK];
-    let mut line = [0u8; LINE];
-    let mut last = [0u8; LAST];
+    let mut chunk = chunk_room();
+    let mut line = line_room();
+    let mut last = last_room();
     let mut out = answer_room();
     answer_all(fd, notes, &mut chunk, &mut line, &mut last, &mut out);
 }
 
 // Answers one line, with notes.
 pub fn run_line(line: &[u8]) {
-    let mut last = [0u8; LAST];
+    let mut last = last_room();
     let mut out = answer_room();
     answer(line, 1, false, true, &mut last, 0, &mut out);
 }
 
-// Where the run stands: in its input, and how many bytes `last` holds.
+// Where the run stands: in its input, and how many bytes `last` holds, those that `_` stands for.
 pub struct Standing {
     pub input: Input,
     pub kept: usize,
@@ -160,22 +173,70 @@ fn answer(
         error(number, Fault::LongLine, notes, out);
         return kept;
     }
-    let said = commands::command(line, last, kept, out);
-    match said {
-        Said::Answer(n) => say(out, n),
-        Said::Handed(n, k) => {
-            say(out, n);
-            return k;
-        }
-        Said::Refused(n, refusal) => {
-            say(out, n);
-            if notes {
-                notes::explain_refusal(refusal);
-            }
-        }
-        Said::Error(fault) => error(number, fault, notes, out),
+    answer_command(line, number, notes, last, kept, out)
+}
+
+// Answers a line that is a command. What `_` stands for is lent meanwhile, so what the answer hands back goes to a buffer of its own
+// first.
+fn answer_command(
+    line: &[u8],
+    number: u64,
+    notes: bool,
+    last: &mut [u8],
+    kept: usize,
+    out: &mut [u8],
+) -> usize
+    requires { ⌜ kept ≤ length (now last) ⌝ }
+    ensures { λ r. ⌜ r ≤ length (now (last .entry)) ⌝ }
+{
+    let mut handed = last_room();
+    let said = commands::command(line, &last[0..kept], &mut handed, out);
+    let k = handed_length(said);
+    tell(said, number, notes, out);
+    if let Said::Handed(_, _) = said {
+        return put_text(last, &handed[0..k]);
     }
     kept
+}
+
+// How many bytes an answer hands back.
+fn handed_length(said: Said) -> usize
+    ensures { λ r. ⌜ r ≡ handedCount said ⌝ }
+{
+    match said {
+        Said::Answer(_) => 0,
+        Said::Handed(_, k) => k,
+        Said::Refused(_, _) => 0,
+        Said::Error(_) => 0,
+    }
+}
+
+// How many bytes of text an answer has.
+fn text_length(said: Said) -> usize
+    ensures { λ r. ⌜ r ≡ saidCount said ⌝ }
+{
+    match said {
+        Said::Answer(n) => n,
+        Said::Handed(n, _) => n,
+        Said::Refused(n, _) => n,
+        Said::Error(_) => 0,
+    }
+}
+
+// Writes what a line is answered.
+fn tell(said: Said, number: u64, notes: bool, out: &mut [u8])
+    requires { ⌜ saidCount said ≤ length (now out) ⌝ }
+{
+    if let Said::Error(fault) = said {
+        error(number, fault, notes, out);
+        return;
+    }
+    say(out, text_length(said));
+    if let Said::Refused(_, refusal) = said {
+        if notes {
+            notes::explain_refusal(refusal);
+        }
+    }
 }
 
 // Ends the n bytes of an answer with a line feed and writes them.
