@@ -6,7 +6,7 @@ pub mod names; // names, and the ranges of the hello that hold them
 
 ghost use Rattle.script_writing.specs.Answers.{WrittenAll};
 ghost use Rattle.reports.specs.Lines.{nameAnswer};
-ghost use Rattle.reports.specs.Code.{firstParts, listParts, lastParts, reportParts, setParts};
+ghost use Rattle.reports.specs.Code.{typeParts, firstParts, groupParts, algorithmParts, listParts, parameterParts, lastParts, reportParts, setParts};
 ghost use Rattle.fingerprint.specs.InRange.{Filled, Counts, Sane};
 use fingerprint::Fingerprint;
 use fingerprint_lists::Types;
@@ -20,6 +20,23 @@ use script_writing::names::put_name;
 use script_writing::texts::put_number;
 use script_writing::texts::put_text;
 
+// The lines of the cipher suites and of the extensions' types.
+fn put_type_lines(out: &mut [u8], report: Fingerprint) -> usize
+    requires { ⌜ Counts report ⌝ }
+    ensures { λ r. ⌜ WrittenAll (typeParts report) r (now (out .entry)) (now (out .exit)) ⌝ }
+{
+    let suites = report.cipher_suites;
+    let n = put_words(out, b"\n  cipher-suites", &suites, report.suite_count);
+    let types = report.extensions;
+    n
+        + put_types(
+            &mut out[n..],
+            b"\n  extensions",
+            types,
+            report.extension_count,
+        )
+}
+
 // The lines of what stands before the extensions, and of their types.
 fn put_first_lines(out: &mut [u8], report: Fingerprint) -> usize
     requires { ⌜ Counts report ⌝ }
@@ -30,21 +47,45 @@ fn put_first_lines(out: &mut [u8], report: Fingerprint) -> usize
         b"report\n  session-id-length ",
         report.legacy_session_id_len as u64,
     );
-    let suites = report.cipher_suites;
-    let m = n
+    n + put_type_lines(&mut out[n..], report)
+}
+
+// The lines of the groups.
+fn put_group_lines(out: &mut [u8], report: Fingerprint) -> usize
+    requires { ⌜ Counts report ⌝ }
+    ensures { λ r. ⌜ WrittenAll (groupParts report) r (now (out .entry)) (now (out .exit)) ⌝ }
+{
+    let groups = report.supported_groups;
+    let n = put_groups(out, b"\n  supported-groups", groups, report.group_count);
+    let shares = report.key_share_groups;
+    n
+        + put_groups(
+            &mut out[n..],
+            b"\n  key-share-groups",
+            shares,
+            report.share_count,
+        )
+}
+
+// The lines of the signature algorithms and of the versions.
+fn put_algorithm_lines(out: &mut [u8], report: Fingerprint) -> usize
+    requires { ⌜ Counts report ⌝ }
+    ensures { λ r. ⌜ WrittenAll (algorithmParts report) r (now (out .entry)) (now (out .exit)) ⌝ }
+{
+    let algorithms = report.signature_algorithms;
+    let n = put_words(
+        out,
+        b"\n  signature-algorithms",
+        &algorithms,
+        report.algorithm_count,
+    );
+    let versions = report.supported_versions;
+    n
         + put_words(
             &mut out[n..],
-            b"\n  cipher-suites",
-            &suites,
-            report.suite_count,
-        );
-    let types = report.extensions;
-    m
-        + put_types(
-            &mut out[m..],
-            b"\n  extensions",
-            types,
-            report.extension_count,
+            b"\n  supported-versions",
+            &versions,
+            report.version_count,
         )
 }
 
@@ -53,31 +94,24 @@ fn put_list_lines(out: &mut [u8], report: Fingerprint) -> usize
     requires { ⌜ Counts report ⌝ }
     ensures { λ r. ⌜ WrittenAll (listParts report) r (now (out .entry)) (now (out .exit)) ⌝ }
 {
-    let groups = report.supported_groups;
-    let n = put_groups(out, b"\n  supported-groups", groups, report.group_count);
-    let shares = report.key_share_groups;
-    let m = n
-        + put_groups(
+    let n = put_group_lines(out, report);
+    n + put_algorithm_lines(&mut out[n..], report)
+}
+
+// The lines of the server's name and of the transport parameters.
+fn put_parameter_lines(out: &mut [u8], hello: &[u8], report: Fingerprint) -> usize
+    requires { ⌜ Sane (now hello) report ⌝ }
+    ensures { λ r. ⌜ WrittenAll (parameterParts (now (hello .entry)) report) r (now (out .entry)) (now (out .exit)) ⌝ }
+{
+    let sni = report.sni;
+    let n = put_sni(out, hello, sni);
+    let ids = report.transport_param_ids;
+    n
+        + put_ids(
             &mut out[n..],
-            b"\n  key-share-groups",
-            shares,
-            report.share_count,
-        );
-    let algorithms = report.signature_algorithms;
-    let k = m
-        + put_words(
-            &mut out[m..],
-            b"\n  signature-algorithms",
-            &algorithms,
-            report.algorithm_count,
-        );
-    let versions = report.supported_versions;
-    k
-        + put_words(
-            &mut out[k..],
-            b"\n  supported-versions",
-            &versions,
-            report.version_count,
+            b"\n  transport-parameters",
+            &ids,
+            report.id_count,
         )
 }
 
@@ -88,16 +122,7 @@ fn put_last_lines(out: &mut [u8], hello: &[u8], report: Fingerprint) -> usize
 {
     let spans = report.alpn;
     let n = put_protocols(out, hello, spans, report.alpn_count);
-    let sni = report.sni;
-    let m = n + put_sni(&mut out[n..], hello, sni);
-    let ids = report.transport_param_ids;
-    m
-        + put_ids(
-            &mut out[m..],
-            b"\n  transport-parameters",
-            &ids,
-            report.id_count,
-        )
+    n + put_parameter_lines(&mut out[n..], hello, report)
 }
 
 // Writes the lines of a report; the names are parts of the hello.

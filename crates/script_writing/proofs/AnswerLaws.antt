@@ -50,6 +50,11 @@ written-more ts us n m k old mid part a d b =
       within = omega (arith, b .within, lent);
     }
 
+-- the same, of a part `&mut out[n..]`
+pub written-then : {ts us : List (List ℕ)} {n m : ℕ} {old mid part : List ℕ} → WrittenAll ts n old mid → WrittenAll us m (midOf n (length mid - n) mid) part
+    → WrittenAll (ts ++ us) (n + m) old (putMid n (length mid - n) mid part)
+written-then {ts} {us} {n} {m} {old} {mid} {part} a b = written-more ts us n m (length mid - n) old mid part a refl b
+
 -- all of the parts, where there is room for them
 unfoldable pub joined : List (List ℕ) → List ℕ
 joined [] = []
