@@ -48,6 +48,10 @@ pub(crate) fn read(folder: &Path) -> Result<Vec<Capture>> {
         let Some(stem) = name.strip_suffix(".frames.bin") else {
             continue;
         };
+        // with ACK frames among them, which both sides refuse, and with no hello beside them
+        if stem.ends_with(".withack") {
+            continue;
+        }
         let again = stem.strip_suffix(".retrans");
         let hello = format!("{}.hello.bin", again.unwrap_or(stem));
         captures.push(Capture {

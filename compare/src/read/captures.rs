@@ -47,10 +47,13 @@ pub(super) fn check(tally: &mut Tally, greetings: &[Greeting]) {
 /// What tshark saw, from its JSON. No string in these files has an escape in it.
 fn fingerprint(json: &str) -> Fingerprint {
     let numbers = |field| items(value(json, field)).map(number).collect();
+    let extensions: Vec<u16> = numbers("extensions");
+    // tshark reads those of QUIC's drafts too, in extension ffa5, which neither side does
+    let has_parameters = extensions.contains(&0x0039);
     Fingerprint {
         legacy_session_id_len: number(value(json, "session_id_len")),
         cipher_suites: numbers("cipher_suites"),
-        extensions: numbers("extensions"),
+        extensions,
         supported_groups: numbers("supported_groups"),
         key_share_groups: numbers("key_share_groups"),
         signature_algorithms: numbers("signature_algorithms"),
@@ -59,7 +62,11 @@ fn fingerprint(json: &str) -> Fingerprint {
         sni: Some(value(json, "sni"))
             .filter(|sni| *sni != "null")
             .map(string),
-        transport_param_ids: ids(json),
+        transport_param_ids: if has_parameters {
+            ids(json)
+        } else {
+            Vec::new()
+        },
     }
 }
 
