@@ -149,12 +149,14 @@ pub record NamesLie (h : List ℕ) (v : ClientHello) : Type 0 where
   pub alpn : All (Lies h) ((report v) .alpn)
   pub sni : (p : Part) → (report v) .sni ≡ some p → Lies h p
 
-pub names-lie : (h : List ℕ) → Bytes h → (v : ClientHello) → read h ≡ result v → NamesLie h v
+pub names-formed : (h : List ℕ) (v : ClientHello) → WellFormed v → encode v ≡ h → NamesLie h v
 unfolding report
-names-lie h b v e =
-    let r = encoded-read h b v e in
-    let s = block-stands h v (r .1) (r .0) in
+names-formed h v w e =
+    let s = block-stands h v w e in
     record {
       alpn = all-lie h (gathered namesIn 0x0010 (blockPlace v) (v .extensions)) (all-gathered h 0x0010 (blockPlace v) (v .extensions) s);
       sni = first-lies h (gathered namesIn 0x0000 (blockPlace v) (v .extensions)) (all-gathered h 0x0000 (blockPlace v) (v .extensions) s);
     }
+
+pub names-lie : (h : List ℕ) → Bytes h → (v : ClientHello) → read h ≡ result v → NamesLie h v
+names-lie h b v e = let r = encoded-read h b v e in names-formed h v (r .1) (r .0)

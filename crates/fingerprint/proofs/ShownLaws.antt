@@ -12,7 +12,7 @@ use Rattle.wire.specs.Answer.{Answer, result, refused}
 use Rattle.wire.specs.Numbers.{Bytes}
 use Rattle.fingerprint_bodies.specs.Conditions.{All}
 use Rattle.fingerprint_lists.specs.Arrays.{extType, group, span, padded, Part, spanOf}
-use Rattle.fingerprint.specs.ClientHello.{ClientHello}
+use Rattle.fingerprint.specs.ClientHello.{ClientHello, encode, WellFormed}
 use Rattle.fingerprint.specs.Reader.{read}
 use Rattle.fingerprint.specs.Report.{Report, report, sniOf, shown, Lies, parsedOf}
 use Rattle.fingerprint.specs.Code.{typeNumber}
@@ -20,7 +20,7 @@ use Rattle.fingerprint.specs.InRange.{groupNumber, typeNumbers, groupNum
 use Rattle.fingerprint.specs.declared.Fingerprint.{Fingerprint}
 use Rattle.fingerprint.proofs.WellFormed.{encoded-read}
 use Rattle.fingerprint.proofs.Accepted.{Numbered, read-numbered}
-use Rattle.fingerprint.proofs.Ranges.{names-lie}
+use Rattle.fingerprint.proofs.Ranges.{names-formed}
 use Rattle.fingerprint.proofs.CountLaws.{within-counts}
 
 -- ---- lists in arrays
@@ -107,15 +107,14 @@ sni-lies : (h : List ℕ) (x : Option Part) → ((p : Part) → x ≡ some p →
 sni-lies h none f = tt
 sni-lies h (some p) f = f p refl
 
+pub range-formed : (h : List ℕ) (v : ClientHello) → WellFormed v → encode v ≡ h → InRange h (report v)
+range-formed h v w e =
+    let names = names-formed h v w e in
+    record { counts = within-counts v w; protocols-lie = names .alpn; sni-lies = sni-lies h ((report v) .sni) (names .sni) }
+
 module _ (h : List ℕ) (b : Bytes h) (v : ClientHello) (e : read h ≡ result v) where
   pub in-range : InRange h (report v)
-  in-range =
-      let names = names-lie h b v e in
-      record {
-        counts = within-counts v (encoded-read h b v e .1);
-        protocols-lie = names .alpn;
-        sni-lies = sni-lies h ((report v) .sni) (names .sni);
-      }
+  in-range = let r = encoded-read h b v e in range-formed h v (r .1) (r .0)
 
 -- what a number of 0 says of the bytes
 pub record Parsed (h : List ℕ) (p : Fingerprint) : Type 0 where

@@ -26,6 +26,7 @@ use Rattle.fingerprint_bodies.specs.Conditions.{All}
 use Rattle.fingerprint.specs.ClientHello.{typeOf, encodeExtensions, encodeFields, encode, FormedExtension, WellFormed}
 use Rattle.fingerprint.specs.Report.{Report, report}
 use Rattle.fingerprint.proofs.WellFormed.{read-encoded}
+use Rattle.fingerprint.proofs.ShownLaws.{range-formed}
 use Rattle.alike.specs.Alike.{alikeId}
 use Rattle.laws_read_back.specs.Shown.{carried, Shows, Asked, Made, ReadBack}
 use Rattle.laws_read_back.proofs.ByteLaws.{bytes-nil, bytes-cons, bytes-digits, bytes-drawn}
@@ -198,5 +199,6 @@ read-back p name scid tape asked =
     record {
       value = made .value;
       accepted = rw (← made .is) (read-encoded (made .value) (made .formed));
+      ranges = range-formed ((hello p name scid tape) .bytes) (made .value) (made .formed) (made .is);
       shows = made .shows;
     }

@@ -16,6 +16,7 @@ use Rattle.fingerprint_bodies.specs.Entries.{mapped}
 use Rattle.fingerprint.specs.ClientHello.{ClientHello, encode, WellFormed}
 use Rattle.fingerprint.specs.Reader.{read}
 use Rattle.fingerprint.specs.Report.{Report, report}
+use Rattle.fingerprint.specs.InRange.{InRange}
 use Rattle.alike.specs.Alike.{alikeId, bytesOf}
 
 -- ---- Ids of parameters, "as in Alike"
@@ -77,4 +78,5 @@ pub record Made (p : Profile) (name scid tape : List ℕ) : Type 0 where
 pub record ReadBack (p : Profile) (name scid tape : List ℕ) : Type 0 where
   pub value : ClientHello
   pub accepted : read ((hello p name scid tape) .bytes) ≡ result value
+  pub ranges : InRange ((hello p name scid tape) .bytes) (report value)
   pub shows : Shows p name tape (report value)
