@@ -18,6 +18,7 @@ use Rattle.tls.proofs.Results.{answered, hello-taken}
 use Rattle.tls.specs.declared.Hello.{Hello}
 use Rattle.fingerprint.specs.Reader.{read}
 use Rattle.fingerprint.specs.Report.{report, parsedOf}
+use Rattle.fingerprint.specs.InRange.{InRange}
 use Rattle.alike.specs.Alike.{alike}
 use Rattle.third_demand.specs.Demand.{Greeting, helloOf, frontOf, receivedOf, Sent, Arrives}
 use Rattle.third_demand.specs.Run.{endOr0, Handed, leftIn, Went, Carried, Arrived, RunDemand, Ran}
@@ -97,12 +98,16 @@ module _ {s : Handed} {marks : List ℕ} {r : Greeted} {hello out marks′ : Lis
   pub arrived : Arrives greeting → Arrived s (c .answer .length) r hello out
   unfolding parsedOf
   arrived a =
+      let ended = joined-end (r .joined) (c .answer .length) (answer-is ∙ a .joined ∙ ap result long) in
+      let front : take (c .answer .length) out ≡ receivedOf greeting = ap (λ (j : Joined). frontOf (endAnswer j) out) (sym ended) ∙ received in
       record {
-        joined = joined-end (r .joined) (c .answer .length) (answer-is ∙ a .joined ∙ ap result long);
+        joined = ended;
         output = output-is ∙ a .output ∙ ap₂ (λ (h : List ℕ) (n : ℕ). h ++ replicate (length (s .out) - n) 0) (sym wrote) long;
-        report = report (a .value);
-        accepted = w .report ∙ ap (λ (h : List ℕ). parsedOf (read h)) received ∙ rw (a .accepted);
+        value = a .value;
+        accepted = ap read front ∙ a .accepted;
+        shows = w .report ∙ ap (λ (h : List ℕ). parsedOf (read h)) received ∙ rw (a .accepted);
         reported = a .reported;
+        ranges = subst (λ (h : List ℕ). InRange h (report (a .value))) (sym front) (a .ranges);
       }
 
 -- ---- The run

@@ -17,6 +17,7 @@ use Rattle.frames.proofs.Joined.{joined-in-buffers}
 use Rattle.fingerprint.specs.ClientHello.{ClientHello}
 use Rattle.fingerprint.specs.Reader.{read}
 use Rattle.fingerprint.specs.Report.{report}
+use Rattle.fingerprint.specs.InRange.{InRange}
 use Rattle.fingerprint_bodies.proofs.BindLaws.{same-some}
 use Rattle.alike.specs.Alike.{Likeness, likeness, alike, Same, Alike}
 use Rattle.alike.proofs.AlikeLaws.{alike-exactly, same-self, same-back, same-on}
@@ -51,6 +52,7 @@ module _ (g : Greeting) (s : Sent g) where
         value = back g (s .made) .value;
         accepted = ap read front-part ∙ back g (s .made) .accepted;
         reported = reported (g .browser) (known g (s .made)) (g .name) (g .tape) (report (back g (s .made) .value)) (back g (s .made) .shows);
+        ranges = subst (λ (l : List ℕ). InRange l (report (back g (s .made) .value))) (sym front-part) (back g (s .made) .ranges);
       }
 
 -- ---- Alike

@@ -18,6 +18,7 @@ use Rattle.tls.specs.declared.Hello.{Hello}
 use Rattle.fingerprint.specs.ClientHello.{ClientHello}
 use Rattle.fingerprint.specs.Reader.{read}
 use Rattle.fingerprint.specs.Report.{Report, report}
+use Rattle.fingerprint.specs.InRange.{InRange}
 use Rattle.alike.specs.Alike.{Likeness, likeness, alike, Same}
 use Rattle.laws_read_back.specs.Shown.{profileIds}
 
@@ -104,6 +105,7 @@ pub record Arrives (g : Greeting) : Type 0 where
   pub value : ClientHello
   pub accepted : read (receivedOf g) ≡ result value
   pub reported : Reported (forBrowser (g .browser)) (g .name) (report value)
+  pub ranges : InRange (receivedOf g) (report value)
 
 -- ---- Two greetings
 

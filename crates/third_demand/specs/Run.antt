@@ -5,6 +5,7 @@ use mathlib.Core.Logic.{_↔_}
 use mathlib.Core.Bool.{true}
 use mathlib.Core.List.{List, _++_}
 use lib.ListN.{length, take, replicate}
+use Rattle.wire.specs.Answer.{result}
 use Rattle.profiles.specs.Profile.{forBrowser}
 use Rattle.frames.specs.Frame.{Frame, encodeAll}
 use Rattle.frames.specs.Join.{limit, marksAfter, endAnswer, Joins}
@@ -14,8 +15,10 @@ use Rattle.frames.specs.declared.joining.Joined.the-variants as joined
 use Rattle.tls.specs.Make.{Makes}
 use Rattle.tls.specs.declared.Hello.{Hello}
 use Rattle.tls.specs.declared.Made.the-variants as made
+use Rattle.fingerprint.specs.ClientHello.{ClientHello}
 use Rattle.fingerprint.specs.Reader.{read}
-use Rattle.fingerprint.specs.Report.{Report, shown, parsedOf}
+use Rattle.fingerprint.specs.Report.{report, shown, parsedOf}
+use Rattle.fingerprint.specs.InRange.{InRange}
 use Rattle.alike.specs.Alike.{alike}
 use Rattle.third_demand.specs.Demand.{Reported, frontOf}
 use Rattle.third_demand.specs.declared.Greeted.{Greeted}
@@ -64,13 +67,17 @@ pub record Carried (s : Handed) (marks : List ℕ) (r : Greeted) (hello : List �
   pub out-room : limit ≤ length (s .out)
   pub marks-room : limit ≤ length marks
 
--- the joiner's answer is the length of what the maker wrote, its output that and then zeros, and the report shows profile and name
+-- The joiner's answer is the length of what the maker wrote, and its output that and then zeros. The reader accepts the front part of the
+-- output, the struct handed out is the report of what it reads there, that report shows profile and name, and its names stand in the front
+-- part where their ranges say.
 pub record Arrived (s : Handed) (n : ℕ) (r : Greeted) (hello out : List ℕ) : Type 0 where
   pub joined : r .joined ≡ joined.End n
   pub output : out ≡ take n hello ++ replicate (length (s .out) - n) 0
-  pub report : Report
-  pub accepted : r .report ≡ shown 0 report
-  pub reported : Reported (forBrowser (s .browser)) (s .name) report
+  pub value : ClientHello
+  pub accepted : read (take n out) ≡ result value
+  pub shows : r .report ≡ shown 0 (report value)
+  pub reported : Reported (forBrowser (s .browser)) (s .name) (report value)
+  pub ranges : InRange (take n out) (report value)
 
 pub record RunDemand (s t : Handed) (n m : ℕ) (r : Outcome) (hello out other-hello other-out : List ℕ) : Type 0 where
   pub first : Arrived s n (r .first) hello out
