@@ -2,8 +2,9 @@
 use Prim.Native.Nat.{ℕ, _-_, _≤_, zero-le}
 use mathlib.Core.Path.{_≡_, refl, sym, ap, ap₂, subst, _∙_}
 use mathlib.Core.List.{List, _++_}
+use mathlib.Core.Option.{Option, none, some}
 use native.Mathlib.Omega.{arith}
-use lib.ListN.{length, take, replicate}
+use lib.ListN.{length, take, drop, replicate}
 use Rattle.wire.specs.Answer.{result}
 use Rattle.wire.specs.Numbers.{Bytes}
 use Rattle.wire.proofs.AnswerLaws.{apart, same-result}
@@ -16,11 +17,17 @@ use Rattle.frames.proofs.Results.{end-within}
 use Rattle.tls.specs.Make.{makeOf, helloAnswer}
 use Rattle.tls.proofs.Results.{answered, hello-taken}
 use Rattle.tls.specs.declared.Hello.{Hello}
+use Rattle.fingerprint_bodies.specs.Entries.{mapped}
+use Rattle.fingerprint_bodies.proofs.BindLaws.{none-some, same-some}
+use Rattle.fingerprint_lists.specs.Arrays.{Part, spanOf}
+use Rattle.fingerprint_lists.specs.declared.Span.{Span}
 use Rattle.fingerprint.specs.Reader.{read}
-use Rattle.fingerprint.specs.Report.{report, parsedOf}
-use Rattle.fingerprint.specs.InRange.{InRange}
-use Rattle.alike.specs.Alike.{alike}
-use Rattle.third_demand.specs.Demand.{Greeting, helloOf, frontOf, receivedOf, Sent, Arrives}
+use Rattle.fingerprint.specs.Report.{report, sniOf, shown, parsedOf}
+use Rattle.fingerprint.specs.InRange.{Inside, SniLies, InRange}
+use Rattle.fingerprint.specs.declared.Fingerprint.{Fingerprint}
+use Rattle.fingerprint.specs.declared.Sni.the-variants.{At}
+use Rattle.alike.specs.Alike.{bytesOf, likeness, alike}
+use Rattle.third_demand.specs.Demand.{profileLikeness, Greeting, helloOf, frontOf, receivedOf, Sent, Arrives}
 use Rattle.third_demand.specs.Run.{endOr0, Handed, leftIn, Went, Carried, Arrived, RunDemand, Ran}
 use Rattle.third_demand.specs.declared.Greeted.{Greeted}
 use Rattle.third_demand.specs.declared.Outcome.{Outcome}
@@ -105,10 +112,33 @@ module _ {s : Handed} {marks : List ℕ} {r : Greeted} {hello out marks′ : Lis
         output = output-is ∙ a .output ∙ ap₂ (λ (h : List ℕ) (n : ℕ). h ++ replicate (length (s .out) - n) 0) (sym wrote) long;
         value = a .value;
         accepted = ap read front ∙ a .accepted;
-        shows = w .report ∙ ap (λ (h : List ℕ). parsedOf (read h)) received ∙ rw (a .accepted);
+        shows = rw (received, a .accepted) at (w .report);
         reported = a .reported;
         ranges = subst (λ (h : List ℕ). InRange h (report (a .value))) (sym front) (a .ranges);
       }
+
+-- ---- The name in the report
+
+-- the range that the report has for the name, and what stands there
+pub record NameStands (h name : List ℕ) (f : Fingerprint) : Type 0 where
+  pub range : Span
+  pub is : f .sni ≡ At range
+  pub inside : Inside h range
+  pub bytes : take (range .length) (drop (range .start) h) ≡ name
+
+name-in : (h name : List ℕ) (f : Fingerprint) (o : Option Part) → f .sni ≡ sniOf o → some name ≡ mapped bytesOf o → SniLies h o → NameStands h name f
+unfolding sniOf mapped
+name-in h name f none e same lies = absurd (none-some (sym same))
+name-in h name f (some p) e same lies =
+    record { range = spanOf p; is = e; inside = lies .inside; bytes = lies .is ∙ sym (same-some name (p .bytes) same) }
+
+-- IN WHAT WAS JOINED THE NAME STANDS WHERE THE REPORT SAYS
+pub name-stands : {s : Handed} {n : ℕ} {r : Greeted} {hello out : List ℕ} → Arrived s n r hello out
+    → NameStands (take n out) (s .name) (r .report)
+unfolding shown profileLikeness likeness
+name-stands {s} {n} {r} {hello} {out} a =
+    name-in (take n out) (s .name) (r .report) ((report (a .value)) .sni) (ap (λ (f : Fingerprint). f .sni) (a .shows)) (a .reported .name)
+    (a .ranges .sni-lies)
 
 -- ---- The run
 

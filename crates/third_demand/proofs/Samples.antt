@@ -1,18 +1,30 @@
--- A closed input that tells a run from wrong ones, whatever output and marks held. Assumes nothing.
-use Prim.Native.Nat.{ℕ, _≤_}
-use mathlib.Core.Path.{_≡_, _∙_}
+-- Closed inputs that tell a run from wrong ones, whatever output and marks held; and a report that no run of two greetings has. Assumes
+-- nothing.
+use Prim.Native.Nat.{ℕ, zero, suc, _≤_}
+use mathlib.Core.Path.{_≡_, sym, ap, _∙_}
+use mathlib.Core.Bool.{_&&_}
 use mathlib.Core.List.{List, [], _∷_}
-use lib.ListN.{length, replicate}
-use borrow.Author.Tests.{le-leb}
+use native.Mathlib.Omega.{arith}
+use lib.ListN.{length, take, getD, replicate}
+use lib.Dec.{eqb, leb}
+use borrow.Author.Tests.{le-leb, eqb-true}
 use Rattle.wire.specs.Answer.{result, refused}
+use Rattle.wire.proofs.AnswerLaws.{ask-yes, andThen-result}
+use Rattle.wire.proofs.SumLaws.{and-right}
 use Rattle.profiles.specs.Profile.{forBrowser}
 use Rattle.profiles.specs.Test.{all}
 use Rattle.profiles.proofs.Table.{curl-tape}
 use Rattle.frames.specs.Read.{readFrame}
 use Rattle.frames.specs.Join.{limit, placeAll, join, roomy, joinOf, endAnswer}
 use Rattle.tls.specs.Make.{plain, askName, askRoom, makeWith, makeOf, helloAnswer}
-use Rattle.third_demand.specs.Run.{Handed, handed, Went}
+use Rattle.fingerprint_lists.specs.Arrays.{span}
+use Rattle.fingerprint.specs.ClientHello.{ClientHello}
+use Rattle.fingerprint.specs.Reader.{readExtensions, readFields, read}
+use Rattle.fingerprint.specs.declared.Sni.the-variants.{At}
+use Rattle.third_demand.specs.Run.{Handed, handed, Went, RunDemand}
 use Rattle.third_demand.specs.declared.Greeted.{Greeted}
+use Rattle.third_demand.specs.declared.Outcome.{Outcome}
+use Rattle.third_demand.proofs.RunLaws.{name-stands}
 use Rattle.third_demand.proofs.Witness.{one-made}
 
 -- the hello of `one`, and a frame of an unknown type
@@ -32,3 +44,31 @@ module _ (out marks : List ℕ) (r : Greeted) (hello out′ marks′ : List ℕ)
 pub from-connection-id : makeOf 2 (0x61 ∷ []) [] [] 491 ≡ refused 8
 unfolding makeOf makeWith askName askRoom plain all forBrowser
 from-connection-id = rw curl-tape
+
+-- ---- A report that points the name at the hello's start
+
+-- what is accepted begins with 01
+first-byte : (h : List ℕ) (v : ClientHello) → read h ≡ result v → getD h 0 0 ≡ 1
+unfolding read readFields
+first-byte h v e =
+    let before = andThen-result (readFields h) readExtensions v e in
+    let short = ask-yes (leb (length h) 16384) 16 _ (before .value) (before .is) in
+    let begun = ask-yes (leb 1 (length h) && eqb (getD h 0 0) 1) 17 _ (before .value) (short .1) in
+    eqb-true (getD h 0 0) 1 (and-right (leb 1 (length h)) (eqb (getD h 0 0) 1) (begun .0))
+
+begins : (n : ℕ) (h name : List ℕ) → take n h ≡ name → 1 ≤ getD name 0 0 → getD name 0 0 ≡ getD h 0 0
+begins zero h name e k = absurd (omega (arith, ap (λ (l : List ℕ). getD l 0 0) e))
+begins (suc n) [] name e k = ap (λ (l : List ℕ). getD l 0 0) (sym e)
+begins (suc n) (b ∷ h) name e k = ap (λ (l : List ℕ). getD l 0 0) (sym e)
+
+-- question 6 lets only names through that begin with 33 or more
+pub not-at-start : {s t : Handed} {n m : ℕ} {r : Outcome} {hello out other-hello other-out : List ℕ}
+    → RunDemand s t n m r hello out other-hello other-out → 33 ≤ getD (s .name) 0 0 → (long : ℕ)
+    → (r .first .report) .sni ≡ At (span 0 long) → ⊥
+not-at-start {s} {t} {n} {m} {r} {hello} {out} d printed long e =
+    let a = d .first in
+    let x = name-stands a in
+    let same : At (x .range) ≡ At (span 0 long) = sym (x .is) ∙ e in
+    let range : x .range ≡ span 0 long = cc in
+    let bytes : take long (take n out) ≡ s .name = rw range at (x .bytes) in
+    omega (arith, begins long (take n out) (s .name) bytes (omega arith), first-byte (take n out) (a .value) (a .accepted))
