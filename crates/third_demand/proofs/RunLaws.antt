@@ -14,9 +14,11 @@ use Rattle.frames.specs.Lists.{Carry}
 use Rattle.frames.specs.declared.joining.Joined.{Joined}
 use Rattle.frames.specs.declared.joining.Joined.the-variants as joined
 use Rattle.frames.proofs.Results.{end-within}
-use Rattle.tls.specs.Make.{makeOf, helloAnswer}
+use Rattle.tls.specs.Make.{makeOf, madeBytes, helloAnswer, Makes}
 use Rattle.tls.proofs.Results.{answered, hello-taken}
 use Rattle.tls.specs.declared.Hello.{Hello}
+use Rattle.tls.specs.declared.Made.{Made}
+use Rattle.tls.specs.declared.Made.the-variants as made-answer
 use Rattle.fingerprint_bodies.specs.Entries.{mapped}
 use Rattle.fingerprint_bodies.proofs.BindLaws.{none-some, same-some}
 use Rattle.fingerprint_lists.specs.Arrays.{Part, spanOf}
@@ -28,7 +30,7 @@ use Rattle.fingerprint.specs.declared.Fingerprint.{Fingerprint}
 use Rattle.fingerprint.specs.declared.Sni.the-variants.{At}
 use Rattle.alike.specs.Alike.{bytesOf, likeness, alike}
 use Rattle.third_demand.specs.Demand.{profileLikeness, Greeting, helloOf, frontOf, receivedOf, Sent, Arrives}
-use Rattle.third_demand.specs.Run.{endOr0, Handed, leftIn, Went, Carried, Arrived, RunDemand, Ran}
+use Rattle.third_demand.specs.Run.{endOr0, Handed, handed, leftIn, Went, Carried, Arrived, RunDemand, Ran}
 use Rattle.third_demand.specs.declared.Greeted.{Greeted}
 use Rattle.third_demand.specs.declared.Outcome.{Outcome}
 use Rattle.third_demand.proofs.ThirdDemand.{third-demand}
@@ -57,6 +59,11 @@ joined-end : (r : Joined) (n : ℕ) → endAnswer r ≡ result n → r ≡ joine
 joined-end (joined.End e) n q = ap joined.End (same-result e n q)
 joined-end (joined.Refused k) n q = absurd (apart q)
 
+-- what the maker wrote is the hello
+written : {browser : ℕ} {name scid tape old new : List ℕ} {r : Made} (h : Hello) → Makes browser name scid tape old r new
+    → makeOf browser name scid tape (length old) ≡ result h → take (h .length) new ≡ madeBytes browser name scid tape
+written {browser} {name} {scid} {tape} {old} h m e = ap (take (h .length)) (m .output) ∙ hello-taken browser name scid tape old h e
+
 module _ {s : Handed} {marks : List ℕ} {r : Greeted} {hello out marks′ : List ℕ} (w : Went s marks r hello out marks′)
     (c : Carried s marks r hello) where
   abbrev pub greeting : Greeting
@@ -75,9 +82,8 @@ module _ {s : Handed} {marks : List ℕ} {r : Greeted} {hello out marks′ : Lis
   made : makeOf (s .browser) (s .name) (s .scid) (s .tape) (length (s .hello)) ≡ result (c .answer)
   made = sym (w .made .is) ∙ ap helloAnswer (c .made)
 
-  -- what the maker wrote is the hello
   wrote : take (c .answer .length) hello ≡ helloOf greeting
-  wrote = ap (take (c .answer .length)) (w .made .output) ∙ hello-taken (s .browser) (s .name) (s .scid) (s .tape) (s .hello) (c .answer) made
+  wrote = written (c .answer) (w .made) made
 
   long : length (helloOf greeting) ≡ c .answer .length
   long =
@@ -116,6 +122,31 @@ module _ {s : Handed} {marks : List ℕ} {r : Greeted} {hello out marks′ : Lis
         reported = a .reported;
         ranges = subst (λ (h : List ℕ). InRange h (report (a .value))) (sym front) (a .ranges);
       }
+
+-- ---- What the demand of a run asks for, of every run that is handed what a greeting has
+
+abbrev pub handedBy : Greeting → List ℕ → Handed
+handedBy g before = handed (g .browser) (g .name) (g .scid) (g .tape) (encodeAll (g .frames)) before (g .out)
+
+made-hello : (r : Made) (h : Hello) → helloAnswer r ≡ result h → r ≡ made-answer.Hello h
+made-hello (made-answer.Hello k) h e = ap made-answer.Hello (same-result k h e)
+made-hello (made-answer.Refused n) h e = absurd (apart e)
+
+pub run-carried : {r : Greeted} {hello out marks′ : List ℕ} (g : Greeting) (before : List ℕ) → Sent g → length before ≡ g .room
+    → Went (handedBy g before) (g .marks) r hello out marks′ → Carried (handedBy g before) (g .marks) r hello
+run-carried {r} {hello} g before s room w =
+    let answer : Hello = s .made .answer in
+    let is : makeOf (g .browser) (g .name) (g .scid) (g .tape) (length before) ≡ result answer = rw room (s .made .is) in
+    let wrote : take (answer .length) hello ≡ helloOf g = written answer (w .made) is in
+    record {
+      answer = answer;
+      made = made-hello (r .made) answer (w .made .is ∙ is);
+      frames = g .frames;
+      bytes = refl;
+      carry = rw wrote (s .carried);
+      out-room = s .out-room;
+      marks-room = s .marks-room;
+    }
 
 -- ---- The name in the report
 

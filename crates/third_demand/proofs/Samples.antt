@@ -1,21 +1,25 @@
 -- Closed inputs that tell a run from wrong ones, whatever output and marks held; and a report that no run of two greetings has. Assumes
 -- nothing.
 use Prim.Native.Nat.{ℕ, zero, suc, _≤_}
-use mathlib.Core.Path.{_≡_, sym, ap, _∙_}
+use mathlib.Core.Path.{_≡_, refl, sym, ap, _∙_}
 use mathlib.Core.Bool.{_&&_}
-use mathlib.Core.List.{List, [], _∷_}
+use mathlib.Core.List.{List, [], _∷_, _++_}
 use native.Mathlib.Omega.{arith}
 use lib.ListN.{length, take, getD, replicate}
-use lib.Dec.{eqb, leb}
+use lib.Dec.{eqb, leb, lit<}
 use borrow.Author.Tests.{le-leb, eqb-true}
 use Rattle.wire.specs.Answer.{result, refused}
+use Rattle.wire.specs.Numbers.{digits}
 use Rattle.wire.proofs.AnswerLaws.{ask-yes, andThen-result}
 use Rattle.wire.proofs.SumLaws.{and-right}
+use Rattle.varint.specs.Varint.{firstAbove, class, form}
 use Rattle.profiles.specs.Profile.{forBrowser}
 use Rattle.profiles.specs.Test.{all}
 use Rattle.profiles.proofs.Table.{curl-tape}
+use Rattle.frames.specs.Frame.{encode, encodeAll}
 use Rattle.frames.specs.Read.{readFrame}
 use Rattle.frames.specs.Join.{limit, placeAll, join, roomy, joinOf, endAnswer}
+use Rattle.frames.specs.Cut.{cutFrom, cut}
 use Rattle.tls.specs.Make.{plain, askName, askRoom, makeWith, makeOf, helloAnswer}
 use Rattle.fingerprint_lists.specs.Arrays.{span}
 use Rattle.fingerprint.specs.ClientHello.{ClientHello}
@@ -25,16 +29,17 @@ use Rattle.third_demand.specs.Run.{Handed, handed, Went, RunDemand}
 use Rattle.third_demand.specs.declared.Greeted.{Greeted}
 use Rattle.third_demand.specs.declared.Outcome.{Outcome}
 use Rattle.third_demand.proofs.RunLaws.{name-stands}
-use Rattle.third_demand.proofs.Witness.{one-made}
+use Rattle.third_demand.proofs.MixedFrames.{between, backward, wide, mixed}
+use Rattle.third_demand.proofs.Witness.{each-made}
 
--- the hello of `one`, and a frame of an unknown type
+-- the hello of `fromZeros 2`, and a frame of an unknown type
 abbrev pub side : List ℕ → Handed
 side out = handed 2 (0x61 ∷ []) [] (replicate 416 0) (0x04 ∷ []) (replicate 491 0) out
 
 module _ (out marks : List ℕ) (r : Greeted) (hello out′ marks′ : List ℕ) (w : Went (side out) marks r hello out′ marks′) where
   -- a run that makes from the connection id, which is empty, is refused with 8
-  pub made-from-tape : helloAnswer (r .made) ≡ result (one-made .answer)
-  made-from-tape = w .made .is ∙ one-made .is
+  pub made-from-tape : helloAnswer (r .made) ≡ result (each-made 2 (lit< tt) .answer)
+  made-from-tape = w .made .is ∙ each-made 2 (lit< tt) .is
 
   -- a run that joins the tape, whose zeros are PADDING, ends at 0
   pub frames-joined : limit ≤ length out → limit ≤ length marks → endAnswer (r .joined) ≡ refused 11
@@ -44,6 +49,18 @@ module _ (out marks : List ℕ) (r : Greeted) (hello out′ marks′ : List ℕ)
 pub from-connection-id : makeOf 2 (0x61 ∷ []) [] [] 491 ≡ refused 8
 unfolding makeOf makeWith askName askRoom plain all forBrowser
 from-connection-id = rw curl-tape
+
+-- ---- The witness's list of frames
+
+-- of aa bb cc dd, with 3 data bytes and with 2: overlap, repeats, an empty frame, PADDING, PING, and numbers in 1, 2, 4 and 8 bytes
+pub mixed-bytes : encodeAll (mixed 3 2 (0xaa ∷ 0xbb ∷ 0xcc ∷ 0xdd ∷ []))
+    ≡ (6 ∷ 3 ∷ 1 ∷ 0xdd ∷ 0 ∷ 6 ∷ 0 ∷ 3 ∷ 0xaa ∷ 0xbb ∷ 0xcc ∷ [])
+    ++ ((1 ∷ 6 ∷ 0x80 ∷ 0 ∷ 0 ∷ 4 ∷ 0x40 ∷ 0 ∷ [])
+    ++ ((6 ∷ 0xc0 ∷ 0 ∷ 0 ∷ 0 ∷ 0 ∷ 0 ∷ 0 ∷ 0 ∷ 0xc0 ∷ 0 ∷ 0 ∷ 0 ∷ 0 ∷ 0 ∷ 0 ∷ 2 ∷ 0xaa ∷ 0xbb ∷ [])
+    ++ ((6 ∷ 0xc0 ∷ 0 ∷ 0 ∷ 0 ∷ 0 ∷ 0 ∷ 0 ∷ 2 ∷ 0xc0 ∷ 0 ∷ 0 ∷ 0 ∷ 0 ∷ 0 ∷ 0 ∷ 2 ∷ 0xcc ∷ 0xdd ∷ [])
+    ++ (6 ∷ 0 ∷ 3 ∷ 0xaa ∷ 0xbb ∷ 0xcc ∷ 6 ∷ 3 ∷ 1 ∷ 0xdd ∷ []))))
+unfolding encodeAll encode mixed backward between wide cut cutFrom class firstAbove form digits
+mixed-bytes = refl
 
 -- ---- A report that points the name at the hello's start
 

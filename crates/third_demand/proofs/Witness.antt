@@ -1,82 +1,29 @@
--- The third demand speaks of something: every hello that is made, cut by the frame writer at every c, is sent in such a list, and in the same
--- frames in reversed order with PADDING between; and some hello is made. Assumes nothing.
-use Prim.Native.Nat.{ℕ, _≤_}
-use mathlib.Core.Path.{_≡_, refl, ap, _∙_}
-use mathlib.Core.List.{List, [], _∷_, reverse, reverseAux}
-use lib.ListN.{length, replicate}
+-- The third demand speaks of something: every hello that is made is sent in lists of frames as the demand allows them, among them one with
+-- overlap, repeats, an empty frame, PADDING, PING and numbers in longer varints; and of each profile a hello is made. Assumes nothing.
+use Prim.Native.Nat.{ℕ, zero, suc, _≤_, _<_}
+use mathlib.Core.Path.{_≡_, refl}
+use mathlib.Core.List.{List, [], _∷_}
+use native.Mathlib.Nat.{le-refl}
+use native.Mathlib.Omega.{arith}
+use lib.ListN.{length, getD, replicate, length-replicate}
 use lib.Dec.{lit<}
+use borrow.Author.Tests.{lt-ltb, le-leb}
+use Rattle.wire.specs.Numbers.{Bytes}
 use Rattle.profiles.specs.Profile.{forBrowser}
+use Rattle.profiles.specs.Sizes.{longest, tapeNeeded}
 use Rattle.profiles.specs.Test.{all}
-use Rattle.profiles.proofs.Table.{curl-length, curl-tape}
-use Rattle.profiles.proofs.TestLaws.{all-below}
-use Rattle.frames.specs.Frame.{Piece, Frame, padding, ping, crypto, encodeAll, AllWhole, pieces}
+use Rattle.profiles.proofs.Table.{chrome-length, firefox-length, curl-length, chrome-tape, firefox-tape, curl-tape}
+use Rattle.profiles.proofs.TableLaws.{at-three}
+use Rattle.frames.specs.Frame.{Frame, encodeAll}
 use Rattle.frames.specs.Join.{limit}
 use Rattle.frames.specs.Cut.{cut, framesOf}
-use Rattle.frames.specs.Lists.{Within, Carry}
-use Rattle.frames.proofs.StreamLaws.{covered-within}
-use Rattle.frames.proofs.PlaceLaws.{within-reverse, reverse-within}
+use Rattle.frames.specs.Lists.{Carry}
 use Rattle.frames.proofs.CutJoined.{cut-carries}
 use Rattle.tls.specs.Hello.{hello}
 use Rattle.tls.specs.Make.{plain, askName, askRoom, makeWith, makeOf}
 use Rattle.third_demand.specs.Demand.{Greeting, helloOf, MadeHello, Sent}
 use Rattle.third_demand.proofs.MadeLaws.{short}
-
--- ---- Reversed order, PADDING between
-
-unfoldable pub between : List Frame → List Frame
-between [] = []
-between (f ∷ []) = f ∷ []
-between (f ∷ g ∷ fs) = f ∷ padding ∷ between (g ∷ fs)
-
-unfoldable pub backward : List Frame → List Frame
-backward fs = between (reverse fs)
-
--- neither changes what the frames have to place
-pieces-after : (f : Frame) (fs gs : List Frame) → pieces fs ≡ pieces gs → pieces (f ∷ fs) ≡ pieces (f ∷ gs)
-unfolding pieces
-pieces-after padding fs gs e = e
-pieces-after ping fs gs e = e
-pieces-after (crypto o l p) fs gs e = ap (λ (ps : List Piece). p ∷ ps) e
-
-pieces-between : (fs : List Frame) → pieces (between fs) ≡ pieces fs
-unfolding between pieces
-pieces-between [] = refl
-pieces-between (f ∷ []) = refl
-pieces-between (f ∷ g ∷ fs) = pieces-after f (padding ∷ between (g ∷ fs)) (g ∷ fs) (pieces-between (g ∷ fs))
-
-pieces-reverse : (fs done : List Frame) → pieces (reverseAux fs done) ≡ reverseAux (pieces fs) (pieces done)
-unfolding pieces
-pieces-reverse [] done = refl
-pieces-reverse (padding ∷ fs) done = pieces-reverse fs (padding ∷ done)
-pieces-reverse (ping ∷ fs) done = pieces-reverse fs (ping ∷ done)
-pieces-reverse (crypto o l p ∷ fs) done = pieces-reverse fs (crypto o l p ∷ done)
-
-pieces-backward : (fs : List Frame) → pieces (backward fs) ≡ reverse (pieces fs)
-unfolding backward pieces
-pieces-backward fs = pieces-between (reverse fs) ∙ pieces-reverse fs []
-
--- and whole frames stay whole
-whole-reverse : (fs done : List Frame) → AllWhole fs → AllWhole done → AllWhole (reverseAux fs done)
-whole-reverse [] done w v = v
-whole-reverse (f ∷ fs) done w v = whole-reverse fs (f ∷ done) (w .1) (w .0, v)
-
-whole-between : (fs : List Frame) → AllWhole fs → AllWhole (between fs)
-unfolding between
-whole-between [] w = tt
-whole-between (f ∷ []) w = w
-whole-between (f ∷ g ∷ fs) w = (w .0, (tt, whole-between (g ∷ fs) (w .1)))
-
-pub backward-carries : (fs : List Frame) (hello : List ℕ) → Carry fs hello → Carry (backward fs) hello
-unfolding backward
-backward-carries fs hello c =
-    let turned = pieces-backward fs in
-    let back : Within (pieces (backward fs)) (pieces fs) = rw turned (reverse-within (pieces fs)) in
-    let forth : Within (pieces fs) (pieces (backward fs)) = rw turned (within-reverse (pieces fs)) in
-    record {
-      whole = whole-between (reverse fs) (whole-reverse fs [] (c .whole) tt);
-      parts = λ p a. c .parts p (back p a);
-      covers = λ i l. covered-within (pieces fs) (pieces (backward fs)) i forth (c .covers i l);
-    }
+use Rattle.third_demand.proofs.MixedFrames.{backward, mixed, backward-carries, mixed-carries}
 
 -- ---- Every made hello
 
@@ -114,29 +61,69 @@ module _ (g : Greeting) (m : MadeHello g) (out-room : limit ≤ length (g .out))
   -- AND IN REVERSED ORDER, WITH PADDING BETWEEN
   pub backward-sent : Sent (sentIn g (backward (cut c (helloOf g))))
   backward-sent =
-      in-frames (backward (cut c (helloOf g))) (backward-carries (cut c (helloOf g)) (helloOf g) (cut-carries c (helloOf g) some (short g m)))
+      in-frames (backward (cut c (helloOf g))) (backward-carries (helloOf g) (cut c (helloOf g)) (cut-carries c (helloOf g) some (short g m)))
 
--- ---- Some hello is made
+  -- AND WITH ALL ELSE THAT THE DEMAND ALLOWS
+  pub mixed-sent : (d : ℕ) → 1 ≤ d → Sent (sentIn g (mixed c d (helloOf g)))
+  mixed-sent d some-too = in-frames (mixed c d (helloOf g)) (mixed-carries c d (helloOf g) some some-too (short g m))
 
--- curl's, for the name "a", from a tape of zeros
-abbrev pub one : Greeting
-one = record {
-  browser = 2;
+-- ---- A hello of each profile is made
+
+-- document 01's table: the tape that each profile needs, and the output for a name of one byte and no connection id
+abbrev tapes : List ℕ
+tapes = 1726 ∷ 1808 ∷ 416 ∷ []
+
+abbrev rooms : List ℕ
+rooms = 1735 ∷ 1834 ∷ 491 ∷ []
+
+-- for the name "a", from a tape of zeros
+abbrev pub fromZeros : ℕ → Greeting
+fromZeros b = record {
+  browser = b;
   name = 0x61 ∷ [];
   scid = [];
-  tape = replicate 416 0;
-  room = 491;
+  tape = replicate (getD tapes b 0) 0;
+  room = getD rooms b 0;
   frames = [];
   out = replicate limit 0;
   marks = replicate limit 0;
 }
 
-pub one-made : MadeHello one
-unfolding makeOf makeWith askName askRoom plain all forBrowser
-one-made =
+tape-enough : (b : ℕ) → b < 3 → tapeNeeded (forBrowser b) ≡ getD tapes b 0
+unfolding forBrowser
+tape-enough = at-three (λ b. tapeNeeded (forBrowser b) ≡ getD tapes b 0) chrome-tape firefox-tape curl-tape
+
+room-enough : (b : ℕ) → b < 3 → longest (forBrowser b) 1 0 ≡ getD rooms b 0
+unfolding forBrowser
+room-enough =
+    at-three (λ b. longest (forBrowser b) 1 0 ≡ getD rooms b 0)
+    (chrome-length 1 0 200)
+    (firefox-length 1 0 200 (lit< tt))
+    (curl-length 1 0 200)
+
+zeros : (n : ℕ) → Bytes (replicate n 0)
+zeros zero i = lit< tt
+zeros (suc n) zero = lit< tt
+zeros (suc n) (suc i) = zeros n i
+
+pub each-made : (b : ℕ) → b < 3 → MadeHello (fromZeros b)
+unfolding makeOf makeWith askName askRoom plain all
+each-made b h =
+    let tape : List ℕ = replicate (getD tapes b 0) 0 in
     record {
-      answer = record { length = length (helloOf one); drawn = (hello (forBrowser 2) (0x61 ∷ []) [] (replicate 416 0)) .next };
-      is = rw (curl-tape, curl-length 1 0 200);
+      answer = record { length = length (helloOf (fromZeros b)); drawn = (hello (forBrowser b) (0x61 ∷ []) [] tape) .next };
+      is =
+          rw (
+            lt-ltb b 3 h,
+            le-leb (tapeNeeded (forBrowser b)) (length tape) (omega (arith, tape-enough b h, length-replicate {A = ℕ} (getD tapes b 0) 0)),
+            le-leb (longest (forBrowser b) 1 0) (getD rooms b 0) (omega (arith, room-enough b h)),
+          );
       scid-bytes = λ i. lit< tt;
-      tape-bytes = all-below 256 (replicate 416 0) (lit< tt) refl;
+      tape-bytes = zeros (getD tapes b 0);
     }
+
+-- AND SENT IN A LIST WITH ALL THAT THE DEMAND ALLOWS
+pub each-sent : (b : ℕ) → b < 3 → (c d : ℕ) → 1 ≤ c → 1 ≤ d → Sent (sentIn (fromZeros b) (mixed c d (helloOf (fromZeros b))))
+each-sent b h c d some some-too =
+    let room : limit ≤ length {A = ℕ} (replicate limit 0) = rw (length-replicate {A = ℕ} limit 0) (le-refl limit) in
+    mixed-sent (fromZeros b) (each-made b h) room room c some d some-too
