@@ -1,26 +1,31 @@
 -- Closed inputs that tell a run from wrong ones, whatever output and marks held; and a report that no run of two greetings has. Assumes
 -- nothing.
-use Prim.Native.Nat.{ℕ, zero, suc, _≤_}
+use Prim.Native.Nat.{ℕ, zero, suc, _≤_, _<_}
 use mathlib.Core.Path.{_≡_, refl, sym, ap, _∙_}
 use mathlib.Core.Bool.{_&&_}
 use mathlib.Core.List.{List, [], _∷_, _++_}
 use native.Mathlib.Omega.{arith}
 use lib.ListN.{length, take, getD, replicate}
 use lib.Dec.{eqb, leb, lit<}
-use borrow.Author.Tests.{le-leb, eqb-true}
+use borrow.Author.Tests.{eqb-true}
 use Rattle.wire.specs.Answer.{result, refused}
-use Rattle.wire.specs.Numbers.{digits}
+use Rattle.wire.specs.Numbers.{digits, numberOn, number}
+use Rattle.wire.specs.Front.{front}
 use Rattle.wire.proofs.AnswerLaws.{ask-yes, andThen-result}
 use Rattle.wire.proofs.SumLaws.{and-right}
-use Rattle.varint.specs.Varint.{firstAbove, class, form}
+use Rattle.varint.specs.Varint.{firstAbove, class, form, classAt, readOf}
 use Rattle.profiles.specs.Profile.{forBrowser}
 use Rattle.profiles.specs.Test.{all}
 use Rattle.profiles.proofs.Table.{curl-tape}
 use Rattle.frames.specs.Frame.{encode, encodeAll}
-use Rattle.frames.specs.Read.{readFrame}
-use Rattle.frames.specs.Join.{limit, placeAll, join, roomy, joinOf, endAnswer}
+use Rattle.frames.specs.Read.{readCrypto, readFrame}
+use Rattle.frames.specs.Stream.{has, byteAt, filled, held, endOf, each, values, agrees, gapless, stream}
+use Rattle.frames.specs.Join.{limit, place, placeAll, close, join, joinOf, endAnswer}
+use Rattle.frames.specs.Lists.{JoinedExactly}
 use Rattle.frames.specs.Cut.{cutFrom, cut}
-use Rattle.tls.specs.Make.{plain, askName, askRoom, makeWith, makeOf, helloAnswer}
+use Rattle.frames.proofs.Joined.{in-buffers}
+use Rattle.tls.specs.Hello.{hello}
+use Rattle.tls.specs.Make.{plain, askName, askRoom, makeWith, makeOf, afterMake, helloAnswer}
 use Rattle.fingerprint_lists.specs.Arrays.{span}
 use Rattle.fingerprint.specs.ClientHello.{ClientHello}
 use Rattle.fingerprint.specs.Reader.{readExtensions, readFields, read}
@@ -28,9 +33,10 @@ use Rattle.fingerprint.specs.declared.Sni.the-variants.{At}
 use Rattle.third_demand.specs.Run.{Handed, handed, Went, RunDemand}
 use Rattle.third_demand.specs.declared.Greeted.{Greeted}
 use Rattle.third_demand.specs.declared.Outcome.{Outcome}
+use Rattle.third_demand.proofs.ThirdDemand.{with-room}
 use Rattle.third_demand.proofs.RunLaws.{name-stands}
 use Rattle.third_demand.proofs.MixedFrames.{between, backward, wide, mixed}
-use Rattle.third_demand.proofs.Witness.{each-made}
+use Rattle.third_demand.proofs.Witness.{fromZeros, each-made}
 
 -- the hello of `fromZeros 2`, and a frame of an unknown type
 abbrev pub side : List ℕ → Handed
@@ -43,12 +49,27 @@ module _ (out marks : List ℕ) (r : Greeted) (hello out′ marks′ : List ℕ)
 
   -- a run that joins the tape, whose zeros are PADDING, ends at 0
   pub frames-joined : limit ≤ length out → limit ≤ length marks → endAnswer (r .joined) ≡ refused 11
-  unfolding joinOf roomy join placeAll readFrame
-  frames-joined h k = w .joined .is ∙ rw (le-leb limit (length out) h, le-leb limit (length marks) k)
+  unfolding joinOf join placeAll readFrame
+  frames-joined h k = w .joined .is ∙ rw (with-room out marks h k)
 
 pub from-connection-id : makeOf 2 (0x61 ∷ []) [] [] 491 ≡ refused 8
 unfolding makeOf makeWith askName askRoom plain all forBrowser
 from-connection-id = rw curl-tape
+
+-- ---- A call that does nothing: what stands in its buffers afterwards, whatever they held. Of the writers, `write-four` (varint) and `cut-by-2`
+-- (crustdelta_c) say it.
+
+-- 01, the type of a ClientHello, in front of the maker's output
+pub make-writes : (b : ℕ) → b < 3 → (old : List ℕ) → length old ≡ (fromZeros b) .room
+    → getD (afterMake b (0x61 ∷ []) [] ((fromZeros b) .tape) old) 0 0 ≡ 1
+unfolding afterMake front hello
+make-writes b h old long = rw (long, each-made b h .is)
+
+-- the joiner's output and marks, for a frame with the byte aa
+pub join-writes : (out marks : List ℕ) → limit ≤ length out → limit ≤ length marks
+    → JoinedExactly (0x06 ∷ 0x00 ∷ 0x01 ∷ 0xaa ∷ []) (0xaa ∷ []) out marks
+unfolding join placeAll readFrame readCrypto readOf classAt number numberOn place agrees each close gapless filled has endOf stream values held byteAt
+join-writes out marks h k = in-buffers (0x06 ∷ 0x00 ∷ 0x01 ∷ 0xaa ∷ []) (0xaa ∷ []) out marks refl (with-room out marks h k)
 
 -- ---- The witness's list of frames
 

@@ -1,5 +1,5 @@
 -- The third demand, over the definitions: see `third-demand` at the end. Assumes nothing.
-use Prim.Native.Nat.{ℕ, _-_, _<_}
+use Prim.Native.Nat.{ℕ, _-_, _≤_, _<_}
 use mathlib.Core.Path.{_≡_, refl, sym, ap, ap₂, subst, _∙_}
 use mathlib.Core.Logic.{_↔_}
 use mathlib.Core.Bool.{true}
@@ -25,15 +25,18 @@ use Rattle.third_demand.specs.Demand.{profileLikeness, Greeting, helloOf
 use Rattle.third_demand.proofs.ProfileLaws.{reported, groups-tell}
 use Rattle.third_demand.proofs.MadeLaws.{known, back, short}
 
+-- question 10
+pub with-room : (out marks : List ℕ) → limit ≤ length out → limit ≤ length marks → roomy out marks ≡ true
+unfolding roomy
+with-room out marks h k = rw (le-leb limit (length out) h, le-leb limit (length marks) k)
+
 module _ (g : Greeting) (s : Sent g) where
   -- ---- Joined
 
-  has-room : roomy (g .out) (g .marks) ≡ true
-  unfolding roomy
-  has-room = rw (le-leb limit (length (g .out)) (s .out-room), le-leb limit (length (g .marks)) (s .marks-room))
-
   joined : JoinedExactly (encodeAll (g .frames)) (helloOf g) (g .out) (g .marks)
-  joined = joined-in-buffers (helloOf g) (g .out) (g .marks) (g .frames) (short g (s .made)) (s .carried) has-room
+  joined =
+      joined-in-buffers (helloOf g) (g .out) (g .marks) (g .frames) (short g (s .made)) (s .carried)
+      (with-room (g .out) (g .marks) (s .out-room) (s .marks-room))
 
   front-part : receivedOf g ≡ helloOf g
   front-part =
@@ -86,23 +89,44 @@ known-by b c name other h k = (
       (same-self (profileLikeness (forBrowser b) name)),
 )
 
--- THE THIRD DEMAND, in the user's words. Beside each line stands the part of the statement that it is (specs/Demand.antt has them).
+-- THE THIRD DEMAND, in the user's words, sentence by sentence. Beside each stands the part of the statement that it is (specs/Demand.antt has
+-- them).
 --
---   "Any two hellos that the maker made,"        g and h; `Sent` of each has `MadeHello`: the maker answered with a length, for any profile,
---                                                name, connection id, tape and output that its questions 4 to 9 let through
---   "each sent in any list of whole frames"      `Greeting` has a `List Frame`; `Carry` in `Sent` says that each is whole, in any widths
---   "that agree with it, cover it and end
---    within it,"                                 `Carry`, with `PartOf` for each CRYPTO frame and `Covers` for all of them
---   "in any order, with PADDING and PING among
---    them,"                                      a `Frame` is PADDING, PING or CRYPTO, and nothing is said of their order, repeats or overlap
---   "are joined to exactly their bytes"          `Arrives`: `joined`, `output`, `marked`, `exactly`
---   "whatever the buffers held,"                 `Greeting` has any `out` and `marks`; `Sent` asks for their lengths only, 16,384 or more
---   "accepted,"                                  `Arrives`: `accepted`, of the front part of the output as the joiner left it
---   "and reported with their profile's lists
---    and name;"                                  `Arrives`: `reported`; lists in order, types and ids as 01 counts them, none missing, none added
---   "Alike says yes exactly when profile and
---    name are the same."                         `ThirdDemand`: `verdict`, both directions, of those two front parts
---   "One claim about two whole lists."           one theorem, of any g and any h; their tapes, connection ids, frames and buffers differ freely
+--   "Take any two hellos that 01's maker
+--    made,"                                    g and h; `Sent` of each has `MadeHello`: the maker answered with a length, for any profile, name,
+--                                              connection id, tape and output that its questions 4 to 9 let through
+--   "whatever the random tapes and
+--    connection ids held."                     `Greeting` has any `tape` and `scid`; `MadeHello` says of them only that they are bytes
+--   "Send each in any list of whole frames,
+--    in any order:"                            `Greeting` has a `List Frame`; `whole` of `Carry` in `Sent`, in any widths; nothing is said of order,
+--                                              repeats or overlap
+--   "CRYPTO frames that agree with it and
+--    together cover it, none ending beyond
+--    it,"                                      `Carry`: `parts`, a `PartOf` for each CRYPTO frame, and `covers`, of all of them
+--   "with PADDING and PING anywhere among
+--    them."                                    a `Frame` is PADDING, PING or CRYPTO
+--   "Whatever the joiner's buffers, of the
+--    sizes that question 10 asks, held
+--    before,"                                  `Greeting` has any `out` and `marks`; `Sent` asks for their lengths alone
+--   "each list is joined to exactly the
+--    bytes of its hello,"                      `Arrives`: `joined`, `output`, `marked`, `exactly`
+--   "and these are accepted and read back by
+--    01's rules."                              `Arrives`: `accepted`, of the front part of the output as the joiner left it; `ranges`: the names in the
+--                                              report stand there where it says
+--   "Between the two, 01's Alike says yes
+--    exactly when profile and name are the
+--    same."                                    `ThirdDemand`: `verdict`, both directions, of those two front parts
+--   "Each one's report shows its profile's
+--    suites, groups, key-share groups,
+--    signature algorithms, versions and ALPN,
+--    each in the profile's order, and the
+--    name that the hello was made with."       `Arrives`: `reported`, a `Same` with the profile's lists and the name: its equations of lists and name
+--   "The extension types and
+--    transport-parameter ids in it are the
+--    profile's, as 01 counts them, in some
+--    order, with none missing and none added." `reported` too: in its `types` and `ids` each number stands as often in the report as in the profile
+--
+-- "It is one claim about two whole lists and not one for each frame or call" (01): one theorem, of any g and any h.
 pub third-demand : (g h : Greeting) → Sent g → Sent h → ThirdDemand g h
 third-demand g h s t =
     let a = arrives g s in

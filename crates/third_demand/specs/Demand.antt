@@ -93,8 +93,8 @@ pub record Sent (g : Greeting) : Type 0 where
   pub out-room : limit ≤ length (g .out)
   pub marks-room : limit ≤ length (g .marks)
 
--- The joiner gives the hello's length and leaves the hello, then zeros, and 1 for each of its places in the marks; the reader accepts what it
--- left, and reports it.
+-- The joiner gives the hello's length and leaves the hello, then zeros, and 1 for each of its places in the marks. The reader accepts the
+-- front part of the output, its report shows profile and name, and its names stand there where their ranges say.
 pub record Arrives (g : Greeting) : Type 0 where
   pub joined : joinedOf g ≡ result (length (helloOf g))
   pub output : outputOf g ≡ helloOf g ++ replicate (length (g .out) - length (helloOf g)) 0
