@@ -1,12 +1,12 @@
 -- Laws of lists and numbers that more than one crate cites. Assumes nothing.
 use Prim.Native.Nat.{ℕ, zero, suc, _-_, _≤_, _<_}
-use mathlib.Core.Path.{_≡_, refl}
+use mathlib.Core.Path.{_≡_, refl, ap, _∙_}
 use mathlib.Core.Logic.{_⊎_, inl, inr, ⊎-elim}
-use mathlib.Core.List.{List, [], _∷_}
-use native.Mathlib.Nat.{not-suc-le-zero, le-of-suc-le-suc, le-refl}
+use mathlib.Core.List.{List, [], _∷_, map}
+use native.Mathlib.Nat.{not-suc-le-zero, le-of-suc-le-suc, le-refl, lt-of-lt-of-le}
 use native.Mathlib.Omega.{arith}
-use lib.ListN.{length, take, drop, set, getD, length-drop}
-use lib.Seq.{take-all, length-take-le}
+use lib.ListN.{length, take, drop, set, getD, length-drop, length-map, List·getD-map}
+use lib.Seq.{take-all, length-take-le, getD-take}
 
 pub lt-or-le : (a b : ℕ) → (a < b) ⊎ (b ≤ a)
 lt-or-le a zero = inr (omega arith)
@@ -44,3 +44,14 @@ module _ {A : Type 0} where
   getD-any-default [] i d e h = absurd (not-suc-le-zero h)
   getD-any-default (x ∷ l) zero d e h = refl
   getD-any-default (x ∷ l) (suc i) d e h = getD-any-default l i d e (le-of-suc-le-suc h)
+
+-- ---- the first so many places of an array, each read by a function
+
+module _ {A B : Type 0} (f : A → B) (l : List A) (count : ℕ) where
+  pub length-firsts : count ≤ length l → length (map f (take count l)) ≡ count
+  length-firsts h = length-map (take count l) f ∙ length-take-le count l h
+
+  -- whatever stands for a missing place
+  pub firsts-at : (d e : A) (i : ℕ) → i < count → count ≤ length l → getD (map f (take count l)) i (f d) ≡ f (getD l i e)
+  firsts-at d e i h k =
+      List·getD-map f (take count l) i d ∙ ap f (getD-take count l i d h ∙ getD-any-default l i d e (lt-of-lt-of-le h k))

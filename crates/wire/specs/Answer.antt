@@ -6,6 +6,16 @@ pub data Answer (A : Type 0) : Type 0 where
   result : A → Answer A
   refused : ℕ → Answer A
 
+-- What an answer says in numbers: the number, 0 where nothing is refused, and the values. "A refusal carries its number, zero counts, an
+-- empty report": its values are all zero, whatever a result would have had.
+pub record Told (A : Type 0) : Type 0 where
+  pub number : ℕ
+  pub values : A
+
+abbrev pub told : {A : Type 0} → A → Answer A → Told A
+told zeros (result a) = record { number = 0; values = a }
+told zeros (refused n) = record { number = n; values = zeros }
+
 -- a question with its number: on "yes" what follows decides
 abbrev pub ask : {A : Type 0} → Bool → ℕ → Answer A → Answer A
 ask true n next = next
