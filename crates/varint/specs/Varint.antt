@@ -5,7 +5,7 @@ use mathlib.Core.Bool.{cond}
 use mathlib.Core.List.{List, [], _∷_}
 use lib.ListN.{length, getD, take}
 use lib.Dec.{ltb, leb}
-use Rattle.wire.specs.Answer.{Answer, result, refused, ask, unlessRefused, IsNumber}
+use Rattle.wire.specs.Answer.{Answer, result, refused, Told, told, ask, unlessRefused, IsNumber}
 use Rattle.wire.specs.Numbers.{digits, number}
 use Rattle.wire.specs.Front.{front}
 use Rattle.varint.specs.declared.Varint.{Varint}
@@ -87,7 +87,19 @@ abbrev pub varintOf : Got → Answer Varint
 varintOf (got.Value x) = result x
 varintOf (got.Refused n) = refused n
 
--- ---- The promises: first the meaning, then the bounds that a caller needs
+-- and in numbers, for each case: "A refusal carries its number, zero counts", so its width and its value are 0
+abbrev pub widthTold : Width → Told ℕ
+widthTold (width-answer.Bytes w) = record { number = 0; values = w }
+widthTold (width-answer.Refused n) = record { number = n; values = 0 }
+
+abbrev pub noVarint : Varint
+noVarint = record { value = 0; width = 0 }
+
+abbrev pub varintTold : Got → Told Varint
+varintTold (got.Value x) = record { number = 0; values = x }
+varintTold (got.Refused n) = record { number = n; values = noVarint }
+
+-- ---- The promises: first the meaning, as an answer and in numbers, then the bounds that a caller needs
 
 abbrev pub WidthBounds : Width → Type 0
 WidthBounds (width-answer.Bytes w) = (1 ≤ w) × (w ≤ 8)
@@ -95,10 +107,12 @@ WidthBounds (width-answer.Refused n) = IsNumber n
 
 pub record Sized (v : ℕ) (r : Width) : Type 0 where
   pub is : widthOf r ≡ sizeOf v
+  pub tells : widthTold r ≡ told 0 (sizeOf v)
   pub bounds : WidthBounds r
 
 pub record Written (v : ℕ) (old : List ℕ) (r : Width) (new : List ℕ) : Type 0 where
   pub is : widthOf r ≡ writeOf v (length old)
+  pub tells : widthTold r ≡ told 0 (writeOf v (length old))
   pub output : new ≡ afterWrite v old
   pub bounds : WidthBounds r
 
@@ -108,4 +122,5 @@ VarintBounds n (got.Refused k) = IsNumber k
 
 pub record Found (s : List ℕ) (r : Got) : Type 0 where
   pub is : varintOf r ≡ readOf s
+  pub tells : varintTold r ≡ told noVarint (readOf s)
   pub bounds : VarintBounds (length s) r
