@@ -8,7 +8,7 @@ use lib.ListN.{length, take, drop, set, length-append, length-take, length-drop}
 use lib.Seq.{take-all, drop-drop}
 use lib.Dec.{leb, lit≤}
 use borrow.Author.Tests.{le-leb, lt-leb}
-use Rattle.wire.specs.Answer.{result, refused, ask, IsNumber}
+use Rattle.wire.specs.Answer.{result, refused, told, ask, IsNumber}
 use Rattle.wire.specs.Front.{Put}
 use Rattle.wire.proofs.ListLaws.{lt-or-le}
 use Rattle.wire.proofs.FrontLaws.{piece-drop, piece-length}
@@ -224,7 +224,7 @@ module _ {c : ℕ} {hello : List ℕ} {at e n : ℕ} (t : Turn c hello at e n) w
 module _ (c : ℕ) (hello old : List ℕ) where
   refuses : (n : ℕ) → cutOf c hello (length old) ≡ refused n → IsNumber n → Cuts c hello old (cut-answer.Refused n) old
   unfolding afterCut
-  refuses n e b = record { is = sym e; output = rw e; bounds = b }
+  refuses n e b = record { is = sym e; tells = ap (told 0) (sym e); output = rw e; bounds = b }
 
   pub refuses-small : c < 1 → Cuts c hello old (cut-answer.Refused 24) old
   unfolding cutOf
@@ -253,4 +253,5 @@ module _ (c : ℕ) (hello old : List ℕ) where
         unfolding afterCut
         cuts n new h p =
             let yes : cutOf c hello (length old) ≡ result (length (framesOf c hello)) = asked ∙ rw (le-leb (length (framesOf c hello)) (length old) h) in
-            record { is = ap result (p .count) ∙ sym yes; output = p .output ∙ rw yes; bounds = rw (p .count) h }
+            let e : result n ≡ cutOf c hello (length old) = ap result (p .count) ∙ sym yes in
+            record { is = e; tells = ap (told 0) e; output = p .output ∙ rw yes; bounds = rw (p .count) h }

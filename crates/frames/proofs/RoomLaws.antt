@@ -1,13 +1,13 @@
 -- What `join_onto` and its two readings promise, by what its code has tested and what `join_all` promises. Assumes nothing.
 use Prim.Native.Nat.{ℕ, _≤_, _<_, _-_}
-use mathlib.Core.Path.{_≡_, refl, sym}
+use mathlib.Core.Path.{_≡_, refl, sym, ap}
 use mathlib.Core.Bool.{true, false}
 use mathlib.Core.List.{List}
 use native.Mathlib.Omega.{arith}
 use lib.ListN.{length, replicate}
 use lib.Dec.{leb, lit≤}
 use borrow.Author.Tests.{le-leb, lt-leb, leb-true}
-use Rattle.wire.specs.Answer.{Answer, result, refused}
+use Rattle.wire.specs.Answer.{Answer, result, refused, told}
 use Rattle.wire.proofs.AnswerLaws.{apart}
 use Rattle.wire.proofs.SumLaws.{and-left, and-right}
 use Rattle.wire.specs.declared.Stop.the-variants as stop
@@ -78,14 +78,14 @@ module _ {frames out marks : List ℕ} where
               bounds = j .bounds;
             }
 
--- ---- the two readings
+-- ---- the two readings; what a joiner's answer tells is what it says in numbers, zeros at a refusal
 
 module _ {frames out marks out′ marks′ : List ℕ} where
   pub joins-end : {e : ℕ} → Walks frames out marks (walked.End e) out′ marks′ → Joins frames out marks (joined.End e) out′ marks′
-  joins-end w = record { is = w .is; output = w .output; marked = w .marked; bounds = w .bounds }
+  joins-end w = record { is = w .is; tells = ap (told 0) (w .is); output = w .output; marked = w .marked; bounds = w .bounds }
 
   pub joins-refused : {n at : ℕ} → Walks frames out marks (walked.Refused n at) out′ marks′ → Joins frames out marks (joined.Refused n) out′ marks′
-  joins-refused w = record { is = w .is; output = w .output; marked = w .marked; bounds = w .bounds .0 }
+  joins-refused w = record { is = w .is; tells = ap (told 0) (w .is); output = w .output; marked = w .marked; bounds = w .bounds .0 }
 
   pub stops-nowhere : {e : ℕ} → Walks frames out marks (walked.End e) out′ marks′ → StopsAt frames out marks stop.Nowhere out′ marks′
   stops-nowhere w = record { is = w .stop; output = w .output; marked = w .marked; bounds = tt }

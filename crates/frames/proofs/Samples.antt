@@ -3,14 +3,14 @@ use Prim.Native.Nat.{ℕ, _+_, _^_}
 use mathlib.Core.Path.{_≡_, refl}
 use mathlib.Core.List.{List, [], _∷_, map}
 use mathlib.Core.Option.{Option, none, some}
-use Rattle.wire.specs.Answer.{Answer, result, refused}
+use Rattle.wire.specs.Answer.{Answer, result, refused, Told, told}
 use Rattle.wire.specs.Numbers.{digits, numberOn, number}
 use Rattle.wire.specs.Stops.{Stopped, stopped}
 use Rattle.varint.specs.Varint.{firstAbove, class, form, classAt, readOf}
 use Rattle.frames.specs.Frame.{encode, encodeAll}
 use Rattle.frames.specs.Read.{readCrypto, readFrame}
 use Rattle.frames.specs.Stream.{has, byteAt, filled, held, endOf, each, values, agrees, gapless, stream}
-use Rattle.frames.specs.Join.{place, placeAll, close, join}
+use Rattle.frames.specs.Join.{place, placeAll, close, join, roomy, ended, joinOf}
 use Rattle.frames.specs.Stops.{placeStops, joinStops}
 use Rattle.frames.specs.Cut.{cutFrom, cut, framesOf, cutOf}
 
@@ -115,3 +115,19 @@ cuts =
 pub cut-samples : cuts ≡ result 8 ∷ refused 26 ∷ refused 24 ∷ refused 24 ∷ result 0 ∷ []
 unfolding digits firstAbove class form encode encodeAll cutFrom cut framesOf cutOf
 cut-samples = refl
+
+-- ---- Refusals in numbers: zeros beside the number
+
+abbrev pub refusals : List (Told ℕ)
+refusals =
+    -- no room
+    told 0 (joinOf (0x06 ∷ 0x00 ∷ 0x01 ∷ 0xaa ∷ []) [] [])
+    -- 0, and not the end of what was placed before the gap was found
+    ∷ told 0 (ended (join (0x06 ∷ 0x01 ∷ 0x01 ∷ 0xbb ∷ [])))
+    -- 0, and not the length that there is no room for
+    ∷ told 0 (cutOf 1 (0xaa ∷ 0xbb ∷ []) 7)
+    ∷ []
+
+pub refusals-told : refusals ≡ record { number = 10; values = 0 } ∷ record { number = 15; values = 0 } ∷ record { number = 26; values = 0 } ∷ []
+unfolding numberOn number classAt readOf readCrypto readFrame has byteAt filled held endOf each values agrees gapless stream place placeAll close join roomy joinOf digits firstAbove class form encode encodeAll cutFrom cut framesOf cutOf
+refusals-told = refl

@@ -5,7 +5,7 @@ use mathlib.Core.Bool.{_&&_}
 use mathlib.Core.List.{List, [], _∷_}
 use lib.ListN.{length, take, drop}
 use lib.Dec.{leb}
-use Rattle.wire.specs.Answer.{Answer, result, refused, ask, unlessRefused, IsNumber}
+use Rattle.wire.specs.Answer.{Answer, result, refused, Told, told, ask, unlessRefused, IsNumber}
 use Rattle.wire.specs.Front.{front}
 use Rattle.varint.specs.Varint.{class}
 use Rattle.frames.specs.Frame.{Piece, Frame, crypto, encodeAll}
@@ -48,11 +48,17 @@ abbrev pub lengthAnswer : Cut → Answer ℕ
 lengthAnswer (cut-answer.Length n) = result n
 lengthAnswer (cut-answer.Refused n) = refused n
 
+-- and in numbers, for each case: "A refusal carries its number, zero counts", so its length is 0
+abbrev pub lengthTold : Cut → Told ℕ
+lengthTold (cut-answer.Length n) = record { number = 0; values = n }
+lengthTold (cut-answer.Refused n) = record { number = n; values = 0 }
+
 abbrev pub CutBounds : ℕ → Cut → Type 0
 CutBounds room (cut-answer.Length n) = n ≤ room
 CutBounds room (cut-answer.Refused n) = IsNumber n
 
 pub record Cuts (c : ℕ) (hello old : List ℕ) (r : Cut) (new : List ℕ) : Type 0 where
   pub is : lengthAnswer r ≡ cutOf c hello (length old)
+  pub tells : lengthTold r ≡ told 0 (cutOf c hello (length old))
   pub output : new ≡ afterCut c hello old
   pub bounds : CutBounds (length old) r

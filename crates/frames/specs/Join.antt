@@ -5,7 +5,7 @@ use mathlib.Core.Bool.{Bool, cond, _&&_}
 use mathlib.Core.List.{List, [], _∷_, _++_}
 use lib.ListN.{length, drop, replicate}
 use lib.Dec.{leb}
-use Rattle.wire.specs.Answer.{Answer, result, refused, ask, andThen, IsNumber}
+use Rattle.wire.specs.Answer.{Answer, result, refused, Told, told, ask, andThen, IsNumber}
 use Rattle.frames.specs.Frame.{Piece, end}
 use Rattle.frames.specs.Read.{Shape, padding, ping, crypto, readFrame, extent, pieceIn}
 use Rattle.frames.specs.Stream.{agrees, gapless, stream}
@@ -80,12 +80,18 @@ abbrev pub endAnswer : Joined → Answer ℕ
 endAnswer (joined.End e) = result e
 endAnswer (joined.Refused n) = refused n
 
+-- and in numbers, for each case: "A refusal carries its number, zero counts", so its end is 0
+abbrev pub endTold : Joined → Told ℕ
+endTold (joined.End e) = record { number = 0; values = e }
+endTold (joined.Refused n) = record { number = n; values = 0 }
+
 abbrev pub JoinBounds : Joined → Type 0
 JoinBounds (joined.End e) = e ≤ limit
 JoinBounds (joined.Refused n) = IsNumber n
 
 pub record Joins (bs out marks : List ℕ) (r : Joined) (out′ marks′ : List ℕ) : Type 0 where
   pub is : endAnswer r ≡ joinOf bs out marks
+  pub tells : endTold r ≡ told 0 (joinOf bs out marks)
   pub output : out′ ≡ outAfter bs out marks
   pub marked : marks′ ≡ marksAfter bs out marks
   pub bounds : JoinBounds r
