@@ -57,9 +57,9 @@ grease-bytes : (bs : List ℕ) → Bytes (map greaseByte bs)
 grease-bytes [] = bytes-nil
 grease-bytes (b ∷ bs) = bytes-cons (greaseByte b) (map greaseByte bs) (grease-byte b) (grease-bytes bs)
 
-pub bytes-version-information : (draw : ℕ) → Bytes (versionInformation draw)
+pub bytes-version-information : (v draw : ℕ) → Bytes (versionInformation v draw)
 unfolding versionInformation
-bytes-version-information draw =
+bytes-version-information v draw =
     let parts : List ℕ = draw ∷ draw / 256 ∷ draw / 65536 ∷ draw / 16777216 ∷ [] in
-    bytes-append (digits 256 4 1) (map greaseByte parts ++ digits 256 4 1) (bytes-digits 4 1)
-    (bytes-append (map greaseByte parts) (digits 256 4 1) (grease-bytes parts) (bytes-digits 4 1))
+    bytes-append (digits 256 4 v) (map greaseByte parts ++ digits 256 4 v) (bytes-digits 4 v)
+    (bytes-append (map greaseByte parts) (digits 256 4 v) (grease-bytes parts) (bytes-digits 4 v))

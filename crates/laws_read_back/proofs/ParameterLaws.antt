@@ -20,7 +20,7 @@ use Rattle.profiles.specs.Test.{all, parameterOk}
 use Rattle.profiles.proofs.TestLaws.{all-below, varint-ok, bytes-ok, version-info-ok, scid-source-ok}
 use Rattle.tape.specs.Tape.{randBytes, nextU64, greaseId, versionInformation}
 use Rattle.tape.proofs.DrawnNumbers.{grease-reserved, grease-below}
-use Rattle.tls_parameters.specs.Parameters.{Resolved, resolve, resolved, sentParameters, parameter, parameters}
+use Rattle.tls_parameters.specs.Parameters.{version, Resolved, resolve, resolved, sentParameters, parameter, parameters}
 use Rattle.tls_parameters.proofs.LengthLaws.{length-resolved, length-parameter}
 use Rattle.tls_parameters.proofs.Sent.{sent-permutes, folded, ids-permute}
 use Rattle.tls.proofs.Sent.{all-permutes}
@@ -58,7 +58,8 @@ module _ (scid tape : List ℕ) (connection : Bytes scid) (drawn : Bytes tape) w
   one-resolved (varint i v) at e = well-resolved i (shortest v) (omega (arith, varint-ok i v e .0)) (bytes-shortest v)
   one-resolved (bytes i b) at e = well-resolved i b (omega (arith, bytes-ok i b e .0)) (bytes-ok i b e .1)
   one-resolved (versionInfo i) at e =
-      well-resolved i (versionInformation (nextU64 tape at)) (omega (arith, version-info-ok i e)) (bytes-version-information (nextU64 tape at))
+      well-resolved i (versionInformation version (nextU64 tape at)) (omega (arith, version-info-ok i e))
+      (bytes-version-information version (nextU64 tape at))
   one-resolved (scidSource i) at e = well-resolved i scid (omega (arith, scid-source-ok i e)) connection
   one-resolved grease at e =
       well-resolved (greaseId (nextU64 tape at)) (randBytes 6 tape (at + 8)) (grease-below (nextU64 tape at)) (bytes-drawn 6 tape (at + 8) drawn)

@@ -1,7 +1,9 @@
 -- What single draws give, for every draw: a reserved identifier from 2^61 on and below 2^62, and a payload of 150 to 200 bytes. Assumes nothing.
 use mathlib.Core.Path.{_≡_}
-use Prim.Native.Nat.{ℕ, _+_, _%_, _^_, _≤_, _<_}
+use mathlib.Core.List.{[], _∷_}
+use Prim.Native.Nat.{ℕ, _+_, _/_, _%_, _^_, _≤_, _<_}
 use native.Mathlib.Omega.{arith}
+use Rattle.wire.specs.Numbers.{digits}
 use Rattle.tape.specs.Tape.{raised, greaseId, payloadLength}
 
 -- a raise makes the remainder 27
@@ -37,3 +39,11 @@ payload-least r = omega arith
 pub payload-most : (r : ℕ) → payloadLength r ≤ 200
 unfolding payloadLength
 payload-most r = omega arith
+
+-- a version in four bytes
+pub four-digits : (v : ℕ) → v < 2 ^ 32 → digits 256 4 v ≡ v / 16777216 ∷ v / 65536 % 256 ∷ v / 256 % 256 ∷ v % 256 ∷ []
+unfolding digits
+four-digits v h =
+    let a : v / 256 / 256 / 256 % 256 ≡ v / 16777216 = omega arith in
+    let b : v / 256 / 256 % 256 ≡ v / 65536 % 256 = omega arith in
+    rw (a, b)

@@ -12,11 +12,6 @@ use Rattle.wire.proofs.ListLaws.{getD-any-default}
 use Rattle.wire.proofs.SumLaws.{length-swapped, swapped-permutes, length-permutes}
 use Rattle.tape.specs.Tape.{nextU64, remainders, swaps, shuffle}
 
-pub length-remainders : (i : ℕ) (tape : List ℕ) (at : ℕ) → length (remainders i tape at) ≡ i
-unfolding remainders
-length-remainders zero tape at = refl
-length-remainders (suc i) tape at = ap suc (length-remainders i tape (at + 8))
-
 -- a remainder for place i + 1 is at most i + 1
 remainder-within : (x i : ℕ) → x % suc (suc i) ≤ suc i
 remainder-within x i = omega (arith, mod-lt x {m = suc (suc i)} (zero-lt-suc (suc i)))
@@ -24,17 +19,16 @@ remainder-within x i = omega (arith, mod-lt x {m = suc (suc i)} (zero-lt-suc (su
 module _ {A : Type 0} where
   -- the swaps for the places i + 1, i, .. 1: the first, then the others
   swaps-next : (d : A) (i : ℕ) (l : List A) (tape : List ℕ) (at : ℕ)
-      → swaps d l (remainders (suc i) tape at) ≡ swaps d (swapped d l (suc i) (nextU64 tape at % suc (suc i))) (remainders i tape (at + 8))
+      → swaps d (suc i) l (remainders (suc i) tape at)
+      ≡ swaps d i (swapped d l (suc i) (nextU64 tape at % suc (suc i))) (remainders i tape (at + 8))
   unfolding swaps remainders
-  swaps-next d i l tape at =
-      ap (λ (n : ℕ). swaps d (swapped d l (suc n) (nextU64 tape at % suc (suc i))) (remainders i tape (at + 8)))
-      (length-remainders i tape (at + 8))
+  swaps-next d i l tape at = rw (add-one (suc i))
 
-  swaps-none : (d : A) (l : List A) (tape : List ℕ) (at : ℕ) → swaps d l (remainders 0 tape at) ≡ l
+  swaps-none : (d : A) (l : List A) (tape : List ℕ) (at : ℕ) → swaps d 0 l (remainders 0 tape at) ≡ l
   unfolding swaps remainders
   swaps-none d l tape at = refl
 
-  swaps-permutes : (d : A) (i : ℕ) (l : List A) (tape : List ℕ) (at : ℕ) → i < length l → Permutation l (swaps d l (remainders i tape at))
+  swaps-permutes : (d : A) (i : ℕ) (l : List A) (tape : List ℕ) (at : ℕ) → i < length l → Permutation l (swaps d i l (remainders i tape at))
   swaps-permutes d zero l tape at h f = rw (swaps-none d l tape at)
   swaps-permutes d (suc i) l tape at h f =
       let r : ℕ = nextU64 tape at % suc (suc i) in
@@ -55,8 +49,8 @@ module _ {A : Type 0} where
 
   -- a turn of the loop, and its end
   pub shuffle-turn : (d : A) (l : List A) (tape : List ℕ) (at i : ℕ) → 1 < i
-      → swaps d l (remainders (i - 1) tape at)
-      ≡ swaps d (swapped d l (i - 1) (nextU64 tape at % (i - 1 + 1))) (remainders (i - 1 - 1) tape (at + 8))
+      → swaps d (i - 1) l (remainders (i - 1) tape at)
+      ≡ swaps d (i - 1 - 1) (swapped d l (i - 1) (nextU64 tape at % (i - 1 + 1))) (remainders (i - 1 - 1) tape (at + 8))
   shuffle-turn d l tape at zero h = absurd (omega arith)
   shuffle-turn d l tape at (suc zero) h = absurd (omega arith)
   shuffle-turn d l tape at (suc (suc i)) h =
@@ -64,7 +58,7 @@ module _ {A : Type 0} where
       let b : suc i - 1 ≡ i = omega arith in
       rw (a, b, add-one (suc i)) (swaps-next d i l tape at)
 
-  pub shuffle-ends : (d : A) (l : List A) (tape : List ℕ) (at i : ℕ) → i ≤ 1 → swaps d l (remainders (i - 1) tape at) ≡ l
+  pub shuffle-ends : (d : A) (l : List A) (tape : List ℕ) (at i : ℕ) → i ≤ 1 → swaps d (i - 1) l (remainders (i - 1) tape at) ≡ l
   shuffle-ends d l tape at i h = let e : i - 1 ≡ 0 = omega arith in rw e (swaps-none d l tape at)
 
   -- what stands for a missing place plays no part
@@ -73,7 +67,7 @@ module _ {A : Type 0} where
   swapped-default d e l i j h k = rw (getD-any-default l j d e k, getD-any-default l i d e h)
 
   swaps-default : (d e : A) (i : ℕ) (l : List A) (tape : List ℕ) (at : ℕ) → i < length l
-      → swaps d l (remainders i tape at) ≡ swaps e l (remainders i tape at)
+      → swaps d i l (remainders i tape at) ≡ swaps e i l (remainders i tape at)
   swaps-default d e zero l tape at h = rw (swaps-none d l tape at, swaps-none e l tape at)
   swaps-default d e (suc i) l tape at h =
       let r : ℕ = nextU64 tape at % suc (suc i) in
@@ -100,15 +94,16 @@ module _ {A B : Type 0} (f : A → B) where
   unfolding swapped
   swapped-map d l i j = rw (map-set (set l i (getD l j d)) j (getD l i d), map-set l i (getD l j d), List·getD-map f l i d, List·getD-map f l j d)
 
-  swaps-map : (d : A) (l : List A) (rs : List ℕ) → map f (swaps d l rs) ≡ swaps (f d) (map f l) rs
+  swaps-map : (d : A) (i : ℕ) (l : List A) (rs : List ℕ) → map f (swaps d i l rs) ≡ swaps (f d) i (map f l) rs
   unfolding swaps
-  swaps-map d l [] = refl
-  swaps-map d l (r ∷ rs) =
-      swaps-map d (swapped d l (suc (length rs)) r) rs ∙ ap (λ (m : List B). swaps (f d) m rs) (swapped-map d l (suc (length rs)) r)
+  swaps-map d zero l rs = refl
+  swaps-map d (suc j) l [] = refl
+  swaps-map d (suc j) l (r ∷ rs) =
+      swaps-map d j (swapped d l (suc j) r) rs ∙ ap (λ (m : List B). swaps (f d) j m rs) (swapped-map d l (suc j) r)
 
   pub shuffle-map : (d : A) (l : List A) (tape : List ℕ) (at : ℕ) → map f (shuffle d l tape at) ≡ shuffle (f d) (map f l) tape at
   unfolding shuffle
-  shuffle-map d l tape at = rw (length-map l f) (swaps-map d l (remainders (length l - 1) tape at))
+  shuffle-map d l tape at = rw (length-map l f) (swaps-map d (length l - 1) l (remainders (length l - 1) tape at))
 
 -- ---- places
 
@@ -130,11 +125,11 @@ take-upto (suc n) (suc m) i h = ap (λ (l : List ℕ). i ∷ l) (take-upto n m (
 
 -- the code's table of places, and its front as the code takes it
 abbrev pub firstPlaces : List ℕ
-firstPlaces = 0 ∷ 1 ∷ 2 ∷ 3 ∷ 4 ∷ 5 ∷ 6 ∷ 7 ∷ 8 ∷ 9 ∷ 10 ∷ 11 ∷ 12 ∷ 13 ∷ 14 ∷ []
+firstPlaces = 0 ∷ 1 ∷ 2 ∷ 3 ∷ 4 ∷ 5 ∷ 6 ∷ 7 ∷ 8 ∷ 9 ∷ 10 ∷ 11 ∷ 12 ∷ 13 ∷ 14 ∷ 15 ∷ []
 
-pub first-places : (n : ℕ) → n ≤ 15 → take (n - 0) firstPlaces ≡ upto 0 n
+pub first-places : (n : ℕ) → n ≤ 16 → take (n - 0) firstPlaces ≡ upto 0 n
 unfolding upto
-first-places n h = let all : n - 0 ≡ n = omega arith in rw all (take-upto n 15 0 h)
+first-places n h = let all : n - 0 ≡ n = omega arith in rw all (take-upto n 16 0 h)
 
 pub map-upto : {A : Type 0} (d : A) (l : List A) (i n : ℕ) → i + n ≤ length l → map (λ j. getD l j d) (upto i n) ≡ take n (drop i l)
 unfolding upto

@@ -23,18 +23,19 @@ nextU64 tape at = lowestFirst (randBytes 8 tape at)
 
 -- ---- "`shuffle` goes from i = last down to 1 and swaps places i and draw mod (i + 1)": the draws' remainders, then the swaps
 
--- the remainders for the places i, i - 1, .. 1
+-- draw mod (i + 1), for i, i - 1, .. 1
 unfoldable pub remainders : ℕ → List ℕ → ℕ → List ℕ
 remainders zero tape at = []
-remainders (suc i) tape at = nextU64 tape at % suc (suc i) ∷ remainders i tape (at + 8)
+remainders (suc j) tape at = let i = suc j in nextU64 tape at % (i + 1) ∷ remainders j tape (at + 8)
 
--- the last remainder is for place 1, the one before for place 2, and so on; d is any element
-unfoldable pub swaps : {A : Type 0} → A → List A → List ℕ → List A
-swaps d l [] = l
-swaps d l (r ∷ rs) = swaps d (swapped d l (suc (length rs)) r) rs
+-- places i and the first remainder are swapped, then i - 1 and the second, .. down to 1; d is any element
+unfoldable pub swaps : {A : Type 0} → A → ℕ → List A → List ℕ → List A
+swaps d zero l rs = l
+swaps d (suc j) l [] = l
+swaps d (suc j) l (r ∷ rs) = let i = suc j in swaps d j (swapped d l i r) rs
 
 unfoldable pub shuffle : {A : Type 0} → A → List A → List ℕ → ℕ → List A
-shuffle d l tape at = swaps d l (remainders (length l - 1) tape at)
+shuffle d l tape at = let last = length l - 1 in swaps d last l (remainders last tape at)
 
 -- the place on the tape after the shuffle of n things
 abbrev pub afterShuffle : ℕ → ℕ → ℕ
@@ -57,8 +58,8 @@ payloadLength draw = 150 + draw % 51
 unfoldable pub greaseByte : ℕ → ℕ
 greaseByte b = b / 16 % 16 * 16 + 0xa
 
--- `version_information`: version 1, "four GREASE bytes from one draw, lowest byte first", version 1
-unfoldable pub versionInformation : ℕ → List ℕ
-versionInformation draw =
-    digits 256 4 1
-    ++ ((greaseByte draw ∷ greaseByte (draw / 256) ∷ greaseByte (draw / 65536) ∷ greaseByte (draw / 16777216) ∷ []) ++ digits 256 4 1)
+-- `version_information`: the chosen version, "four GREASE bytes from one draw, lowest byte first", and that version among those available
+unfoldable pub versionInformation : ℕ → ℕ → List ℕ
+versionInformation version draw =
+    digits 256 4 version
+    ++ ((greaseByte draw ∷ greaseByte (draw / 256) ∷ greaseByte (draw / 65536) ∷ greaseByte (draw / 16777216) ∷ []) ++ digits 256 4 version)

@@ -60,7 +60,7 @@ fn place_up_to(tape: &[u8], at: usize, i: usize) -> usize
 }
 
 // The places of a list in order, with which a shuffle of its places begins. No list of a profile is longer.
-pub const PLACES: [usize; 15] = [0, 1, 2, 3, 4, 5, 6, 7, 8, 9, 10, 11, 12, 13, 14];
+pub const PLACES: [usize; 16] = [0, 1, 2, 3, 4, 5, 6, 7, 8, 9, 10, 11, 12, 13, 14, 15];
 
 // Fisher-Yates, from the last place down to 1; gives the place on the tape after its last draw.
 pub fn shuffle(v: &mut [usize], tape: &[u8], at: usize) -> usize
@@ -100,13 +100,17 @@ fn grease_byte(b: u64) -> u8
     (b / 16 % 16 * 16 + 10) as u8
 }
 
-// The value of 0x11: version 1, four GREASE bytes of one draw, version 1.
-pub fn version_information(draw: u64) -> [u8; 12]
-    ensures { λ r. ⌜ r ≡ versionInformation draw ⌝ }
+// The value of 0x11: the chosen version, four GREASE bytes of one draw, the chosen version among those that are available.
+pub fn version_information(version: u32, draw: u64) -> [u8; 12]
+    ensures { λ r. ⌜ r ≡ versionInformation version draw ⌝ }
 {
+    let e = (version / 16777216) as u8;
+    let f = (version / 65536 % 256) as u8;
+    let g = (version / 256 % 256) as u8;
+    let h = (version % 256) as u8;
     let a = grease_byte(draw);
     let b = grease_byte(draw / 256);
     let c = grease_byte(draw / 65536);
     let d = grease_byte(draw / 16777216);
-    [0, 0, 0, 1, a, b, c, d, 0, 0, 0, 1]
+    [e, f, g, h, a, b, c, d, e, f, g, h]
 }

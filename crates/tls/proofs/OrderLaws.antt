@@ -61,7 +61,7 @@ module _ (p : Profile) (sound : Sound p) (long : length (p .«extensions_order»
   within = omega (arith, sound .extensions)
 
   first-length : length (take (n - 0) firstPlaces) ≡ n
-  first-length = ap length (first-places n (sound .extensions)) ∙ length-upto 0 n
+  first-length = ap length (first-places n (omega (arith, sound .extensions))) ∙ length-upto 0 n
 
   order-ends : at + cond shuffled (8 * (length (take (n - 0) firstPlaces) - 1)) 0 ≡ afterOrder (profileOf p)
   order-ends = rw (first-length, e, length-take-le n (p .«extensions_order») within)
@@ -77,7 +77,7 @@ module _ (p : Profile) (sound : Sound p) (long : length (p .«extensions_order»
       (q : last ≡ cond (p .«randomize_extensions_order») (shuffle 0 (take (p .«extension_count» - 0) firstPlaces) tape at) (take (p .«extension_count» - 0) firstPlaces))
       (rest : List ℕ) where
     is : last ≡ places shuffled n tape at
-    is = q ∙ rw (first-places n (sound .extensions))
+    is = q ∙ rw (first-places n (omega (arith, sound .extensions)))
 
     count : length last ≡ n
     count = ap length is ∙ length-places shuffled n tape at

@@ -16,7 +16,7 @@ use Rattle.tape.proofs.DrawLaws.{length-randBytes}
 use Rattle.tape.proofs.DrawnNumbers.{grease-least, grease-below}
 use Rattle.tape.proofs.ShuffleLaws.{shuffle-permutes}
 use Rattle.tls_extensions.proofs.LengthLaws.{length-extension}
-use Rattle.tls_parameters.specs.Parameters.{Resolved, none, resolve, resolved, afterParameters, sentParameters, parameter, parameters, extQuicTp}
+use Rattle.tls_parameters.specs.Parameters.{version, Resolved, none, resolve, resolved, afterParameters, sentParameters, parameter, parameters, extQuicTp}
 
 -- ---- one parameter
 
@@ -43,16 +43,16 @@ class-large v h l = rw (le-ltb v (2 ^ 6) (omega arith), le-ltb v (2 ^ 14) (omega
 class-grease : (r : ℕ) → class (greaseId r) ≡ 3
 class-grease r = class-large (greaseId r) (omega (arith, grease-least r)) (grease-below r)
 
-pub length-version-information : (r : ℕ) → length (versionInformation r) ≡ 12
+pub length-version-information : (v r : ℕ) → length (versionInformation v r) ≡ 12
 unfolding versionInformation digits
-length-version-information r = refl
+length-version-information v r = refl
 
 pub length-resolved-bytes : (p : Parameter) (scid tape : List ℕ) (at : ℕ)
     → length (parameter ((resolve p scid tape at) .id) ((resolve p scid tape at) .value)) ≡ parameterLength (length scid) p
 unfolding resolve parameterLength
 length-resolved-bytes (varint i v) scid tape at = length-of i (shortest v) (width (class v)) (length-shortest v)
 length-resolved-bytes (bytes i b) scid tape at = length-parameter i b
-length-resolved-bytes (versionInfo i) scid tape at = length-of i (versionInformation (nextU64 tape at)) 12 (length-version-information (nextU64 tape at))
+length-resolved-bytes (versionInfo i) scid tape at = length-of i (versionInformation version (nextU64 tape at)) 12 (length-version-information version (nextU64 tape at))
 length-resolved-bytes (scidSource i) scid tape at = length-parameter i scid
 length-resolved-bytes grease scid tape at =
     let drawn = nextU64 tape at in

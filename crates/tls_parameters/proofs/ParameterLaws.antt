@@ -1,13 +1,15 @@
 -- One parameter: its bytes while they are written, and the values that are parts of a table or of the tape. Assumes nothing.
-use Prim.Native.Nat.{ℕ, zero, suc, _+_, _-_, _≤_, _<_}
+use Prim.Native.Nat.{ℕ, zero, suc, _+_, _-_, _*_, _%_, _≤_, _<_}
 use mathlib.Core.Path.{_≡_, refl, sym}
-use mathlib.Core.List.{List, [], _++_, append-nil}
+use mathlib.Core.List.{List, [], _∷_, _++_, append-nil}
 use native.Mathlib.Omega.{arith}
+use borrow.Author.Tests.{lt-ltb}
 use lib.ListN.{length, take, drop}
 use lib.Dec.{lit<}
+use Rattle.wire.specs.Numbers.{digits}
 use Rattle.wire.specs.Front.{Put}
 use Rattle.wire.proofs.Writing.{Writing, lentFrom, backFrom, first-written, rest-is, writes, finished}
-use Rattle.varint.specs.Varint.{width, class, shortest}
+use Rattle.varint.specs.Varint.{width, firstAbove, class, form, shortest}
 use Rattle.profiles.specs.Code.{tpBytes}
 use Rattle.tape.specs.Tape.{randBytes}
 use Rattle.tape.proofs.DrawLaws.{randBytes-part}
@@ -31,6 +33,13 @@ module _ (id : ℕ) (value old : List ℕ) (h : length (parameter id value) ≤ 
       pub value-written : {n : ℕ} {r : List ℕ} → Put value n (lentFrom (a + b) (backFrom a p q)) r
           → Put (parameter id value) (a + b + n) old (backFrom (a + b) (backFrom a p q) r)
       value-written z = finished (writes value [] length-written z)
+
+-- a length below 64 is one byte
+pub one-byte : (n : ℕ) → n < 64 → shortest n ≡ n ∷ []
+unfolding shortest form class firstAbove digits
+one-byte n h =
+    let low : (0 * 64 + n) % 256 ≡ n = omega arith in
+    rw (lt-ltb n 64 h, low)
 
 -- ---- values
 

@@ -9,6 +9,10 @@ use Rattle.tape.specs.Tape.{randBytes, nextU64, shuffle, afterShuffle, greaseId
 use Rattle.tape.specs.Part.{Part}
 use Rattle.wire.specs.Vectors.{extension}
 
+-- QUIC version 1 (RFC 9000), the only one that is asked for
+abbrev pub version : ℕ
+version = 1
+
 -- a parameter with its value
 pub record Resolved : Type 0 where
   pub id : ℕ
@@ -17,7 +21,7 @@ pub record Resolved : Type 0 where
 unfoldable pub resolve : Parameter → List ℕ → List ℕ → ℕ → Resolved
 resolve (varint i v) scid tape at = record { id = i; value = shortest v }
 resolve (bytes i b) scid tape at = record { id = i; value = b }
-resolve (versionInfo i) scid tape at = record { id = i; value = versionInformation (nextU64 tape at) }
+resolve (versionInfo i) scid tape at = record { id = i; value = versionInformation version (nextU64 tape at) }
 resolve (scidSource i) scid tape at = record { id = i; value = scid }
 resolve grease scid tape at = record { id = greaseId (nextU64 tape at); value = randBytes 6 tape (at + 8) }
 

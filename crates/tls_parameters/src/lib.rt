@@ -28,13 +28,14 @@ fn put_value(out: &mut [u8], id: u64, value: &[u8]) -> usize
     b + wire::put_bytes(&mut out[b..], value)
 }
 
-// The same for a number, whose varint is the value.
+// The same for a number, whose varint is the value: its length is one byte.
 fn put_number(out: &mut [u8], id: u64, value: u64) -> usize
     requires { ⌜ (id < 2 ^ 62) × (value < 2 ^ 62) × (length (parameter id (shortest value)) ≤ length (now out)) ⌝ }
     ensures { λ r. ⌜ Put (parameter id (shortest value)) r (now (out .entry)) (now (out .exit)) ⌝ }
 {
     let a = put_varint(out, id);
-    let b = a + put_varint(&mut out[a..], varint_length(value) as u64);
+    wire::w8(&mut out[a..], varint_length(value) as u8);
+    let b = a + 1;
     b + put_varint(&mut out[b..], value)
 }
 
@@ -55,11 +56,14 @@ fn put_raw(out: &mut [u8], id: u64, n: usize) -> usize
     put_value(out, id, &bytes[0..end])
 }
 
+// QUIC version 1 (RFC 9000), the only one that is asked for.
+const VERSION_1: u32 = 1;
+
 fn put_version_info(out: &mut [u8], id: u64, tape: &[u8], at: usize) -> usize
-    requires { ⌜ (id < 2 ^ 62) × (at + 8 ≤ length (now tape)) × (length (parameter id (versionInformation (nextU64 (now tape) at))) ≤ length (now out)) ⌝ }
-    ensures { λ r. ⌜ Put (parameter id (versionInformation (nextU64 (now (tape .entry)) at))) r (now (out .entry)) (now (out .exit)) ⌝ }
+    requires { ⌜ (id < 2 ^ 62) × (at + 8 ≤ length (now tape)) × (length (parameter id (versionInformation 1 (nextU64 (now tape) at))) ≤ length (now out)) ⌝ }
+    ensures { λ r. ⌜ Put (parameter id (versionInformation 1 (nextU64 (now (tape .entry)) at))) r (now (out .entry)) (now (out .exit)) ⌝ }
 {
-    let value = tape::version_information(tape::next_u64(tape, at));
+    let value = tape::version_information(VERSION_1, tape::next_u64(tape, at));
     put_value(out, id, &value)
 }
 

@@ -12,7 +12,7 @@ use Rattle.tape.proofs.shuffle.Tie as tie
 abbrev Inv-loop : tie.InvT-loop
 Inv-loop v₀ tape at i₀ t₀ v i t =
     (i ≤ length v₀) × (length v ≡ length v₀) × (t + 8 * (i - 1) ≡ afterShuffle (length v₀) at)
-    × (swaps 0 v (remainders (i - 1) tape t) ≡ shuffle 0 v₀ tape at)
+    × (swaps 0 (i - 1) v (remainders (i - 1) tape t) ≡ shuffle 0 v₀ tape at)
 
 abbrev μ-loop : tie.MeasureT-loop
 μ-loop v₀ tape at i₀ t₀ v i t = i

@@ -1,15 +1,15 @@
--- As `put_value`, where the value is a varint as long as `varint_length` says. Assumes nothing.
+-- As `put_value`, where the value is a varint as long as `varint_length` says: at most 8, so that its length is one byte. Assumes nothing.
 use Prim.Native.Nat.{_+_}
-use mathlib.Core.Path.{_≡_, sym, _∙_}
-use mathlib.Core.List.{[], _++_}
+use mathlib.Core.Path.{_≡_, refl, sym, _∙_}
+use mathlib.Core.List.{[], _∷_, _++_}
 use denote.Ref.{now}
 use lib.ListN.{length}
 use Rattle.varint.specs.Varint.{shortest}
 use Rattle.varint.proofs.RoundTrip.{length-shortest}
 use Rattle.wire.specs.Front.{Put}
-use Rattle.wire.proofs.Writing.{Writing, lentFrom, backFrom, place-within, next-room}
+use Rattle.wire.proofs.Writing.{Writing, lentFrom, backFrom, filled, place-within, next-room}
 use Rattle.tls_parameters.specs.Parameters.{parameter}
-use Rattle.tls_parameters.proofs.ParameterLaws.{id-room, id-written, length-written, value-written}
+use Rattle.tls_parameters.proofs.ParameterLaws.{id-room, id-written, length-written, value-written, one-byte}
 use native.Mathlib.Omega.{arith}
 use borrow.Author.Needs.{needs}
 use Rattle.tls_parameters.proofs.put_number.Statement.{statement}
@@ -25,117 +25,84 @@ id-done : (c : tie.After-put-varint)
     (put-varint .last .0)
     (put-varint .result)
 id-done c =
-    let args = c .before .before .before .args in
-    let pre = c .before .before .before .pre in
-    let put-varint = c .put-varint in
-    id-written (args .id) (shortest (args .value)) (now (args .out)) (pre .2) (put-varint .ensures)
+    let start = c .before .before .before in
+    id-written (start .args .id) (shortest (start .args .value)) (now (start .args .out)) (start .pre .2) (c .put-varint .ensures)
 
+-- the length of the value, and its byte
 long : (c : tie.After-varint-length) → c .varint-length .result ≡ length (shortest (c .before .before .before .before .before .before .before .args .value))
-long c =
-    let args = c .before .before .before .before .before .before .before .args in
-    let varint-length = c .varint-length in
-    varint-length .ensures .0 ∙ sym (length-shortest (args .value))
+long c = c .varint-length .ensures .0 ∙ sym (length-shortest (c .before .before .before .before .before .before .before .args .value))
 
-length-put : (c : tie.After-put-varint2)
+byte : (c : tie.After-varint-length)
+    → shortest (length (shortest (c .before .before .before .before .before .before .before .args .value))) ≡ c .varint-length .result ∷ []
+byte c = rw (← (long c)) (one-byte (c .varint-length .result) (omega (arith, c .varint-length .ensures .1)))
+
+length-put : (c : tie.After-w8)
     → let args = c .before .before .before .before .before .before .before .before .args in
     let put-varint = c .before .before .before .before .before .put-varint in
-    let put-varint2 = c .put-varint2 in
-    Put (shortest (length (shortest (args .value)))) (put-varint2 .result) (lentFrom (put-varint .result) (put-varint .last .0)) (put-varint2 .last .0)
-length-put c = rw (long (c .before)) at (c .put-varint2 .ensures)
+    Put (shortest (length (shortest (args .value)))) 1 (lentFrom (put-varint .result) (put-varint .last .0)) (c .w8 .last .0)
+length-put c = rw (byte (c .before)) (filled refl (c .w8 .ensures))
 
-length-done : (c : tie.After-put-varint2)
+length-done : (c : tie.After-w8)
     → let args = c .before .before .before .before .before .before .before .before .args in
     let put-varint = c .before .before .before .before .before .put-varint in
-    let put-varint2 = c .put-varint2 in
     Writing
     (parameter (args .id) (shortest (args .value)))
     (shortest (args .value) ++ [])
     (now (args .out))
-    (backFrom (put-varint .result) (put-varint .last .0) (put-varint2 .last .0))
-    (put-varint .result + put-varint2 .result)
+    (backFrom (put-varint .result) (put-varint .last .0) (c .w8 .last .0))
+    (put-varint .result + 1)
 length-done c =
-    let args = c .before .before .before .before .before .before .before .before .args in
-    let pre = c .before .before .before .before .before .before .before .before .pre in
-    let put-varint = c .before .before .before .before .before .put-varint in
-    length-written (args .id) (shortest (args .value)) (now (args .out)) (pre .2) (put-varint .ensures) (length-put c)
-
-all-done : (c : tie.After-put-varint3)
-    → let args = c .before .before .before .before .before .before .before .before .before .before .before .before .args in
-    let first = c .before .before .before .before .before .before .before .before .before .put-varint in
-    let second = c .before .before .before .before .put-varint2 in
-    let a = first .result in
-    let b = second .result in
-    Put
-    (parameter (args .id) (shortest (args .value)))
-    (a + b + (c .put-varint3 .result))
-    (now (args .out))
-    (backFrom (a + b) (backFrom a (first .last .0) (second .last .0)) (c .put-varint3 .last .0))
-all-done c =
-    let args = c .before .before .before .before .before .before .before .before .before .before .before .before .args in
-    let pre = c .before .before .before .before .before .before .before .before .before .before .before .before .pre in
-    let put-varint = c .before .before .before .before .before .before .before .before .before .put-varint in
-    let after-put-varint2 = c .before .before .before .before in
-    let put-varint3 = c .put-varint3 in
-    value-written (args .id) (shortest (args .value)) (now (args .out)) (pre .2) (put-varint .ensures) (length-put after-put-varint2) (put-varint3 .ensures)
+    let start = c .before .before .before .before .before .before .before .before in
+    length-written (start .args .id) (shortest (start .args .value)) (now (start .args .out)) (start .pre .2) (c .before .before .before .before .before .put-varint .ensures) (length-put c)
 
 put-varint-requires : tie.Need-put-varint-requires
 put-varint-requires c κs =
-    let args = c .before .before .args in
-    let pre = c .before .before .pre in
-    (pre .0, id-room (args .id) (shortest (args .value)) (now (args .out)) (pre .2))
+    let start = c .before .before in
+    (start .pre .0, id-room (start .args .id) (shortest (start .args .value)) (now (start .args .out)) (start .pre .2))
 
-sub-put-varint : tie.Need-sub-put-varint
-sub-put-varint c = place-within (id-done (c .before .before))
-
-part-put-varint-start : tie.Need-part-put-varint-start
-part-put-varint-start c = place-within (id-done (c .before .before))
+w8-requires : tie.Need-w8-requires
+w8-requires c κs =
+    let n = length (shortest (c .before .before .before .before .before .before .before .args .value)) in
+    next-room (shortest n) _ (id-done (c .before .before .before .before)) (rw (byte c) refl)
 
 put-varint-requires-2 : tie.Need-put-varint-requires-2
 put-varint-requires-2 c κs =
-    let args = c .before .before .before .before .before .before .before .args in
-    let after-put-varint = c .before .before .before .before in
-    let varint-length = c .varint-length in
-    let n = length (shortest (args .value)) in
-    rw (long c) (omega (arith, varint-length .ensures .1, long c), next-room (shortest n) _ (id-done after-put-varint) (length-shortest n))
+    let start = c .before .before .before .before .before .before .before .before .before .before .before in
+    let v = start .args .value in
+    (start .pre .1, next-room (shortest v) [] (length-done (c .before .before .before)) (length-shortest v))
 
-add-b : tie.Need-add-b
-add-b c = omega (arith, (length-done (c .before .before)) .within)
-
-sub-put-varint-2 : tie.Need-sub-put-varint-2
-sub-put-varint-2 c = place-within (length-done (c .before .before))
-
-part-put-varint-start-2 : tie.Need-part-put-varint-start-2
-part-put-varint-start-2 c = place-within (length-done (c .before .before))
-
-put-varint-requires-3 : tie.Need-put-varint-requires-3
-put-varint-requires-3 c κs =
-    let args = c .before .before .before .before .before .before .before .before .before .before .before .args in
-    let pre = c .before .before .before .before .before .before .before .before .before .before .before .pre in
-    let after-put-varint2 = c .before .before .before in
-    let v = args .value in
-    (pre .1, next-room (shortest v) [] (length-done after-put-varint2) (length-shortest v))
-
-add-result : tie.Need-add-result
-add-result c = omega (arith, (all-done (c .before .before)) .count)
-
-returns : tie.Need-returns
-returns c = all-done (c .before .before)
+-- all three
+all-done : (c : tie.After-put-varint2)
+    → let w8 = c .before .before .before .before in
+    let args = w8 .before .before .before .before .before .before .before .before .args in
+    let first = w8 .before .before .before .before .before .put-varint in
+    let a = first .result in
+    Put
+    (parameter (args .id) (shortest (args .value)))
+    (a + 1 + (c .put-varint2 .result))
+    (now (args .out))
+    (backFrom (a + 1) (backFrom a (first .last .0) (w8 .w8 .last .0)) (c .put-varint2 .last .0))
+all-done c =
+    let w8 = c .before .before .before .before in
+    let start = w8 .before .before .before .before .before .before .before .before in
+    value-written (start .args .id) (shortest (start .args .value)) (now (start .args .out)) (start .pre .2) (w8 .before .before .before .before .before .put-varint .ensures) (length-put w8) (c .put-varint2 .ensures)
 
 pub put-number-spec : {M : Type 1} → statement M
 put-number-spec =
     tie.close
     (tie.spec
     put-varint-requires
-    sub-put-varint
-    part-put-varint-start
-    (λ c. search needs)  -- part-put-varint-end
+    (λ c. place-within (id-done (c .before .before)))  -- sub-w8
+    (λ c. place-within (id-done (c .before .before)))  -- part-w8-start
+    (λ c. search needs)  -- part-w8-end
     (λ c κs. search needs)  -- varint-length-requires
+    (λ c. omega (arith, c .varint-length .ensures .1))  -- cast-w8
+    w8-requires
+    (λ c. omega (arith, (length-done (c .before .before)) .within))  -- add-b
+    (λ c. place-within (length-done (c .before .before)))  -- sub-put-varint
+    (λ c. place-within (length-done (c .before .before)))  -- part-put-varint-start
+    (λ c. search needs)  -- part-put-varint-end
     put-varint-requires-2
-    add-b
-    sub-put-varint-2
-    part-put-varint-start-2
-    (λ c. search needs)  -- part-put-varint-end-2
-    put-varint-requires-3
-    add-result
+    (λ c. omega (arith, (all-done (c .before .before)) .count))  -- add-result
     (λ c. search needs)  -- same-length
-    returns)
+    (λ c. all-done (c .before .before)))  -- returns
