@@ -1,5 +1,5 @@
 -- The three profiles that the code's tables give: each is its value, and sound. Assumes nothing.
-use Prim.Native.Nat.{ℕ, zero, suc, _+_, _-_, _*_, _≤_, _<_}
+use Prim.Native.Nat.{ℕ, _+_, _-_, _*_, _≤_, _<_}
 use mathlib.Core.Path.{_≡_, refl}
 use mathlib.Core.List.{List, [], _∷_, _++_}
 use mathlib.Core.Bool.{true, false}
@@ -11,17 +11,10 @@ use Rattle.varint.specs.Varint.{firstAbove, class}
 use Rattle.profiles.specs.Profile as value
 use Rattle.profiles.specs.Profile.{chromeProfile, firefoxProfile, curlProfile, forBrowser}
 use Rattle.profiles.specs.Sizes.{keyShareSize, keyDraws, parameterDraws, parameterLength, extensionExtent, helloLength, helloDrawn, longest, tapeNeeded}
-use Rattle.profiles.specs.Test.{all, wordList, parameterOk, sent, passes}
+use Rattle.profiles.specs.Test.{all, wordList, idOk, parameterOk, sent, passes}
 use Rattle.profiles.specs.Code.{profileOf, Chosen}
 use Rattle.profiles.specs.declared.Profile.{Profile}
-use Rattle.profiles.proofs.Table.{chrome-length, firefox-length, curl-length, chrome-tape, firefox-tape, curl-tape}
-
--- a rule of a table of three, from its three rows
-pub at-three : (P : ℕ → Type 0) → P 0 → P 1 → P 2 → (b : ℕ) → b < 3 → P b
-at-three P x y z zero h = x
-at-three P x y z (suc zero) h = y
-at-three P x y z (suc (suc zero)) h = z
-at-three P x y z (suc (suc (suc b))) h = absurd (omega arith)
+use Rattle.profiles.proofs.Table.{at-three, chrome-length, firefox-length, curl-length, chrome-tape, firefox-tape, curl-tape}
 
 -- what a table of three rows holds at a place
 abbrev of-three : {A : Type 0} → (ℕ → A) → A → ℕ → A
@@ -80,7 +73,7 @@ stored-is = at-three (λ b. profileOf (stored b) ≡ forBrowser b) refl refl ref
 pub passing : (b : ℕ) → b < 3 → passes (forBrowser b) ≡ true
 unfolding
     forBrowser chromeProfile firefoxProfile curlProfile helloLength helloDrawn extensionExtent total keyShareSize keyDraws parameterDraws
-    parameterLength class firstAbove all wordList parameterOk sent passes any member distinct
+    parameterLength class firstAbove all wordList idOk parameterOk sent passes any member distinct
 passing = at-three (λ b. passes (forBrowser b) ≡ true) refl refl refl
 
 numbers : (b : ℕ) → b < 3 → Numbers b

@@ -1,18 +1,18 @@
 -- What a profile that passes the test has, fact by fact. Assumes nothing.
 use Prim.Native.Nat.{ℕ, zero, suc, _^_, _≤_, _<_}
 use mathlib.Core.Path.{_≡_}
-use mathlib.Core.Bool.{Bool, true, _&&_}
+use mathlib.Core.Bool.{Bool, true, not, _&&_}
 use mathlib.Core.List.{List, [], _∷_, map}
 use native.Mathlib.Nat.{not-suc-le-zero, le-of-suc-le-suc}
 use lib.ListN.{length, getD}
-use lib.Dec.{ltb, leb, lit<}
-use borrow.Author.Tests.{ltb-true, leb-true}
+use lib.Dec.{eqb, ltb, leb, lit<}
+use borrow.Author.Tests.{eqb-true, ltb-true, leb-true}
 use Rattle.wire.specs.Numbers.{Bytes}
 use Rattle.wire.specs.Sums.{member, distinct}
 use Rattle.wire.proofs.SumLaws.{and-left, and-right}
 use Rattle.profiles.specs.Profile.{varint, bytes, versionInfo, scidSource, Profile}
 use Rattle.profiles.specs.Sizes.{longest, tapeNeeded}
-use Rattle.profiles.specs.Test.{all, counted, wordList, idOf, parameterOk, sent, passes}
+use Rattle.profiles.specs.Test.{all, counted, wordList, idOf, idOk, parameterOk, sent, passes}
 
 -- ---- a test of every element
 
@@ -119,18 +119,22 @@ pub name-ok : (name : List ℕ) → nameOk name ≡ true → Counted 1 255 name 
 name-ok name e =
     (counts 1 255 name (and-left _ _ e), all-below 256 name (lit< tt) (and-right (counted 1 255 name) _ e))
 
+id-ok : (i : ℕ) → idOk i ≡ true → i < 2 ^ 61
+unfolding idOk
+id-ok i e = ltb-true i (2 ^ 61) (and-left (ltb i (2 ^ 61)) (not (eqb i 0x11)) e)
+
 pub varint-ok : (i v : ℕ) → parameterOk (varint i v) ≡ true → (i < 2 ^ 61) × (v < 2 ^ 62)
 unfolding parameterOk
-varint-ok i v e = (ltb-true i (2 ^ 61) (and-left _ _ e), ltb-true v (2 ^ 62) (and-right (ltb i (2 ^ 61)) _ e))
+varint-ok i v e = (id-ok i (and-left _ _ e), ltb-true v (2 ^ 62) (and-right (idOk i) _ e))
 
 pub bytes-ok : (i : ℕ) (b : List ℕ) → parameterOk (bytes i b) ≡ true → (i < 2 ^ 61) × Bytes b
 unfolding parameterOk
-bytes-ok i b e = (ltb-true i (2 ^ 61) (and-left _ _ e), all-below 256 b (lit< tt) (and-right (ltb i (2 ^ 61)) _ e))
+bytes-ok i b e = (id-ok i (and-left _ _ e), all-below 256 b (lit< tt) (and-right (idOk i) _ e))
 
 pub version-info-ok : (i : ℕ) → parameterOk (versionInfo i) ≡ true → i < 2 ^ 61
 unfolding parameterOk
-version-info-ok i e = ltb-true i (2 ^ 61) e
+version-info-ok i e = rw (eqb-true i 0x11 e) (lit< tt)
 
 pub scid-source-ok : (i : ℕ) → parameterOk (scidSource i) ≡ true → i < 2 ^ 61
 unfolding parameterOk
-scid-source-ok i e = ltb-true i (2 ^ 61) e
+scid-source-ok i e = id-ok i e

@@ -1,4 +1,5 @@
 pub mod Profile
 pub mod Sizes
+pub mod Table
 pub mod Test
 pub mod Code

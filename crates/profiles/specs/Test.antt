@@ -1,6 +1,6 @@
 -- What every proof needs of a profile, as a test that computes.
 use Prim.Native.Nat.{ℕ, _^_}
-use mathlib.Core.Bool.{Bool, true, cond, _&&_}
+use mathlib.Core.Bool.{Bool, true, cond, not, _&&_}
 use mathlib.Core.List.{List, [], _∷_, map}
 use lib.ListN.{length}
 use lib.Dec.{eqb, ltb, leb}
@@ -28,12 +28,16 @@ idOf (versionInfo i) = i
 idOf (scidSource i) = i
 idOf grease = 2 ^ 61
 
--- ids of profiles are below 2^61, numbers have a varint, and bytes are bytes
+-- ids of profiles are below 2^61, and 0x11 is version information and nothing else
+unfoldable pub idOk : ℕ → Bool
+idOk i = ltb i (2 ^ 61) && not (eqb i 0x11)
+
+-- numbers have a varint, and bytes are bytes
 unfoldable pub parameterOk : Parameter → Bool
-parameterOk (varint i v) = ltb i (2 ^ 61) && ltb v (2 ^ 62)
-parameterOk (bytes i b) = ltb i (2 ^ 61) && all (λ x. ltb x 256) b
-parameterOk (versionInfo i) = ltb i (2 ^ 61)
-parameterOk (scidSource i) = ltb i (2 ^ 61)
+parameterOk (varint i v) = idOk i && ltb v (2 ^ 62)
+parameterOk (bytes i b) = idOk i && all (λ x. ltb x 256) b
+parameterOk (versionInfo i) = eqb i 0x11
+parameterOk (scidSource i) = idOk i
 parameterOk grease = true
 
 -- the types that `build_extension` knows; two are written only where the profile says so

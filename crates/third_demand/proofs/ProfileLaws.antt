@@ -9,7 +9,7 @@ use Rattle.wire.specs.Sums.{count, any, member}
 use Rattle.wire.proofs.SumLaws.{count-permutes}
 use Rattle.profiles.specs.Profile.{Profile, chromeProfile, firefoxProfile, curlProfile, forBrowser}
 use Rattle.profiles.specs.Test.{all}
-use Rattle.profiles.proofs.TableLaws.{at-three}
+use Rattle.profiles.proofs.Table.{at-three}
 use Rattle.profiles.proofs.TestLaws.{all-at}
 use Rattle.fingerprint.specs.Report.{Report}
 use Rattle.alike.specs.Alike.{alikeId, likeness}

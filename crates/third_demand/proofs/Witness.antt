@@ -12,8 +12,8 @@ use Rattle.wire.specs.Numbers.{Bytes}
 use Rattle.profiles.specs.Profile.{forBrowser}
 use Rattle.profiles.specs.Sizes.{longest, tapeNeeded}
 use Rattle.profiles.specs.Test.{all}
-use Rattle.profiles.proofs.Table.{chrome-length, firefox-length, curl-length, chrome-tape, firefox-tape, curl-tape}
-use Rattle.profiles.proofs.TableLaws.{at-three}
+use Rattle.profiles.specs.Table.{rowOf}
+use Rattle.profiles.proofs.Table.{table-length, table-tape}
 use Rattle.frames.specs.Frame.{Frame, encodeAll}
 use Rattle.frames.specs.Join.{limit}
 use Rattle.frames.specs.Cut.{cut, framesOf}
@@ -69,37 +69,18 @@ module _ (g : Greeting) (m : MadeHello g) (out-room : limit ≤ length (g .out))
 
 -- ---- A hello of each profile is made
 
--- document 01's table: the tape that each profile needs, and the output for a name of one byte and no connection id
-abbrev tapes : List ℕ
-tapes = 1726 ∷ 1808 ∷ 416 ∷ []
-
-abbrev rooms : List ℕ
-rooms = 1735 ∷ 1834 ∷ 491 ∷ []
-
--- for the name "a", from a tape of zeros
+-- for the name "a", from a tape of zeros; tape and output of just the length that document 01's table has
 abbrev pub fromZeros : ℕ → Greeting
 fromZeros b = record {
   browser = b;
   name = 0x61 ∷ [];
   scid = [];
-  tape = replicate (getD tapes b 0) 0;
-  room = getD rooms b 0;
+  tape = replicate ((rowOf b) .tapeNeeded) 0;
+  room = (rowOf b) .helloLength 1 0 200;
   frames = [];
   out = replicate limit 0;
   marks = replicate limit 0;
 }
-
-tape-enough : (b : ℕ) → b < 3 → tapeNeeded (forBrowser b) ≡ getD tapes b 0
-unfolding forBrowser
-tape-enough = at-three (λ b. tapeNeeded (forBrowser b) ≡ getD tapes b 0) chrome-tape firefox-tape curl-tape
-
-room-enough : (b : ℕ) → b < 3 → longest (forBrowser b) 1 0 ≡ getD rooms b 0
-unfolding forBrowser
-room-enough =
-    at-three (λ b. longest (forBrowser b) 1 0 ≡ getD rooms b 0)
-    (chrome-length 1 0 200)
-    (firefox-length 1 0 200 (lit< tt))
-    (curl-length 1 0 200)
 
 zeros : (n : ℕ) → Bytes (replicate n 0)
 zeros zero i = lit< tt
@@ -109,17 +90,17 @@ zeros (suc n) (suc i) = zeros n i
 pub each-made : (b : ℕ) → b < 3 → MadeHello (fromZeros b)
 unfolding makeOf makeWith askName askRoom plain all
 each-made b h =
-    let tape : List ℕ = replicate (getD tapes b 0) 0 in
+    let tape : List ℕ = replicate ((rowOf b) .tapeNeeded) 0 in
     record {
       answer = record { length = length (helloOf (fromZeros b)); drawn = (hello (forBrowser b) (0x61 ∷ []) [] tape) .next };
       is =
           rw (
             lt-ltb b 3 h,
-            le-leb (tapeNeeded (forBrowser b)) (length tape) (omega (arith, tape-enough b h, length-replicate {A = ℕ} (getD tapes b 0) 0)),
-            le-leb (longest (forBrowser b) 1 0) (getD rooms b 0) (omega (arith, room-enough b h)),
+            le-leb (tapeNeeded (forBrowser b)) (length tape) (omega (arith, table-tape b h, length-replicate {A = ℕ} ((rowOf b) .tapeNeeded) 0)),
+            le-leb (longest (forBrowser b) 1 0) ((rowOf b) .helloLength 1 0 200) (omega (arith, table-length b h 1 0 200 (lit< tt))),
           );
       scid-bytes = λ i. lit< tt;
-      tape-bytes = zeros (getD tapes b 0);
+      tape-bytes = zeros ((rowOf b) .tapeNeeded);
     }
 
 -- AND SENT IN A LIST WITH ALL THAT THE DEMAND ALLOWS

@@ -22,7 +22,7 @@ use Rattle.profiles.specs.Code.{rowOf, profileOf, Sound, Entries}
 use Rattle.profiles.specs.declared.Profile as code
 use Rattle.profiles.specs.declared.TpEntry.{TpEntry}
 use Rattle.profiles.proofs.Profile.{the-type}
-use Rattle.profiles.proofs.TableLaws.{at-three}
+use Rattle.profiles.proofs.Table.{at-three}
 use Rattle.profiles.proofs.TestLaws.{all-at, passed, varint-ok, bytes-ok, version-info-ok, scid-source-ok}
 use Rattle.tape.specs.Part.{Part, undrawn, followed, Room, Puts}
 use Rattle.tape.specs.declared.Wrote.{Wrote}

@@ -47,6 +47,11 @@ module _ {A : Type 0} where
 
 -- ---- the first so many places of an array, each read by a function
 
+pub map-take : {A B : Type 0} (f : A → B) (n : ℕ) (l : List A) → map f (take n l) ≡ take n (map f l)
+map-take f zero l = refl
+map-take f (suc n) [] = refl
+map-take {B = B} f (suc n) (x ∷ l) = ap (λ (r : List B). f x ∷ r) (map-take f n l)
+
 module _ {A B : Type 0} (f : A → B) (l : List A) (count : ℕ) where
   pub length-firsts : count ≤ length l → length (map f (take count l)) ≡ count
   length-firsts h = length-map (take count l) f ∙ length-take-le count l h
