@@ -7,5 +7,7 @@ pub mod Results
 pub mod BuildLaws
 pub mod OrderLaws
 pub mod HelloLaws
+pub mod QuestionLaws
+pub mod NameLaws
 pub mod MakeLaws
 pub mod Samples

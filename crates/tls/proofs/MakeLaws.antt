@@ -1,89 +1,35 @@
 -- The questions on name, connection id, tape and output, and the answers of the maker. Assumes nothing.
 use Prim.Native.Nat.{ℕ, _+_, _≤_, _<_}
-use mathlib.Core.Path.{_≡_, refl, sym, _∙_}
-use mathlib.Core.Bool.{Bool, true, false, _&&_, and-true, and-assoc}
-use mathlib.Core.List.{List, [], _∷_, _++_}
-use native.Mathlib.Numerals.{add-one}
+use mathlib.Core.Path.{_≡_, sym, ap, _∙_}
+use mathlib.Core.Bool.{true, false}
+use mathlib.Core.List.{List}
 use native.Mathlib.Omega.{arith}
-use lib.ListN.{length, take, getD}
-use lib.Seq.{take-suc}
+use lib.ListN.{length}
 use lib.Dec.{ltb, leb, lit≤}
 use borrow.Author.Tests.{leb-true, lt-ltb, le-ltb}
-use Rattle.wire.specs.Answer.{Answer, result, refused, ask, IsNumber}
+use Rattle.wire.specs.Answer.{Answer, result, refused, told, IsNumber}
 use Rattle.wire.specs.Sums.{distinct}
-use Rattle.wire.proofs.SumLaws.{and-right}
 use Rattle.profiles.specs.Profile.{Profile, forBrowser}
 use Rattle.profiles.specs.Sizes.{longest, tapeNeeded}
-use Rattle.profiles.specs.Test.{all, passes}
+use Rattle.profiles.specs.Test.{passes}
 use Rattle.profiles.specs.Code.{profileOf, Sound}
 use Rattle.profiles.specs.declared.Profile as code
 use Rattle.profiles.proofs.TestLaws.{passed}
 use Rattle.tape.specs.Part.{Room, Puts}
 use Rattle.tape.specs.declared.Wrote.{Wrote}
 use Rattle.tls.specs.Hello.{hello}
-use Rattle.tls.specs.Make.{plain, askName, askRoom, makeWith, afterMakeWith, makeOf, afterMake, MakesWith, Makes}
-use Rattle.tls.specs.Writing.{numberOf, HelloRoom}
+use Rattle.tls.specs.Make.{askRoom, makeWith, afterMakeWith, makeOf, afterMake, noHello, helloAnswer, helloTold, MakesWith, Makes}
+use Rattle.tls.specs.Writing.{HelloRoom}
 use Rattle.tls.specs.declared.Hello.{Hello}
 use Rattle.tls.specs.declared.Made.{Made}
 use Rattle.tls.specs.declared.Made.the-variants as made
-
--- ---- the name
-
-all-append : {A : Type 0} (q : A → Bool) (a b : List A) → all q (a ++ b) ≡ (all q a && all q b)
-unfolding all
-all-append q [] b = refl
-all-append q (x ∷ a) b = rw (all-append q a b) (sym (and-assoc (q x) (all q a) (all q b)))
-
-pub plain-none : true ≡ plain []
-unfolding plain all
-plain-none = refl
-
--- one more byte, as the loop tests it
-pub plain-more : (name : List ℕ) (i : ℕ) → i < length name
-    → (plain (take i name) && leb 33 (getD name i 0) && leb (getD name i 0) 126) ≡ plain (take (i + 1) name)
-unfolding plain all
-plain-more name i h =
-    let q : ℕ → Bool = λ b. leb 33 b && leb b 126 in
-    let b = getD name i 0 in
-    rw (add-one i, take-suc name i 0 h, all-append q (take i name) (b ∷ []), and-true (q b))
-    (and-assoc (all q (take i name)) (leb 33 b) (leb b 126))
-
--- ---- questions, and the number of the first "no"
-
--- the number that the code gives for an answer without a result of its own
-abbrev pub NumberIs : ℕ → Answer (Unit {0}) → Type 0
-NumberIs n q = n ≡ numberOf q
-
-abbrev pub asName : List ℕ → Answer (Unit {0})
-asName name = askName name (result tt)
+use Rattle.tls.proofs.QuestionLaws.{NumberIs, Before, none, more, yes-to}
+use Rattle.tls.proofs.NameLaws.{asName, before-name, Named, named}
 
 abbrev pub asRoom : Profile → ℕ → ℕ → ℕ → ℕ → Answer (Unit {0})
 asRoom p n s t room = askRoom p n s t room (result tt)
 
--- questions before some answer, and the same questions by themselves
-record Before {A : Type 0} (next asked : Answer A) (q : Answer (Unit {0})) : Type 0 where
-  pub yes : numberOf q ≡ 0 → asked ≡ next
-  pub no : (numberOf q ≡ 0 → ⊥) → (asked ≡ refused (numberOf q)) × IsNumber (numberOf q)
-
-none : {A : Type 0} (next : Answer A) → Before next next (result tt)
-none next = record { yes = λ e. refl; no = λ h. absurd (h refl) }
-
--- one question more
-more : {A : Type 0} {next asked : Answer A} {q : Answer (Unit {0})} (b : Bool) (k : ℕ) → IsNumber k → Before next asked q → Before next (ask b k asked) (ask b k q)
-more true k h a = a
-more false k h a = record { yes = λ e. absurd (omega (arith, h)); no = λ g. (refl, h) }
-
--- a "yes" to the question and those after it
-yes-to : (b : Bool) (k : ℕ) (q : Answer (Unit {0})) → IsNumber k → numberOf (ask b k q) ≡ 0 → (b ≡ true) × (numberOf q ≡ 0)
-yes-to true k q h e = (refl, e)
-yes-to false k q h e = absurd (omega (arith, h))
-
 module _ {A : Type 0} (next : Answer A) where
-  before-name : (name : List ℕ) → Before next (askName name next) (asName name)
-  unfolding askName
-  before-name name =
-      more (leb 1 (length name) && leb (length name) 255) 5 (lit≤ tt, lit≤ tt) (more (plain name) 6 (lit≤ tt, lit≤ tt) (none next))
-
   before-room : (p : Profile) (n s t room : ℕ) → Before next (askRoom p n s t room next) (asRoom p n s t room)
   unfolding askRoom
   before-room p n s t room =
@@ -92,12 +38,8 @@ module _ {A : Type 0} (next : Answer A) where
 
 -- ---- what the code knows when no question was answered "no"
 
-pub short-name : (name : List ℕ) {n : ℕ} → NumberIs n (asName name) → n ≡ 0 → length name ≤ 255
-unfolding askName
-short-name name e z =
-    let some : Bool = leb 1 (length name) in
-    let a = yes-to (some && leb (length name) 255) 5 _ (lit≤ tt, lit≤ tt) (sym e ∙ z) in
-    leb-true (length name) 255 (and-right some _ (a .0))
+pub named-as : (name : List ℕ) {n : ℕ} → NumberIs n (asName name) → n ≡ 0 → Named name
+named-as name e z = named name (sym e ∙ z)
 
 pub record Roomy (p : Profile) (n s t room : ℕ) : Type 0 where
   pub short-id : s ≤ 20
@@ -121,7 +63,7 @@ pub hello-room : (p : code.Profile) (name scid tape : List ℕ) {room b n : ℕ}
     → (passes (profileOf p) ≡ true → length name ≤ 255 → length scid ≤ 20 → length ((hello (profileOf p) name scid tape) .bytes) ≤ 16384)
     → HelloRoom p name scid tape room
 hello-room p name scid tape {room} sound e z f y suffices fits =
-    let short = short-name name e z in
+    let short = (named-as name e z) .short in
     let r = roomy (profileOf p) (length name) (length scid) (length tape) room f y in
     let sizes = suffices (passed (profileOf p) (sound .test) .types-once) in
     record {
@@ -155,21 +97,21 @@ module _ (p : Profile) (name scid tape old : List ℕ) where
       rw e (refuses (a .0) (a .1))
 
   module _ {b n : ℕ} (e : NumberIs b (asName name)) (z : b ≡ 0) (f : NumberIs n (asRoom p (length name) (length scid) (length tape) (length old))) where
-    named : makeWith p name scid tape (length old) ≡ rest
+    past-name : makeWith p name scid tape (length old) ≡ rest
     unfolding makeWith
-    named = before-name rest name .yes (sym e ∙ z)
+    past-name = before-name rest name .yes (sym e ∙ z)
 
     pub refuses-room : (n ≡ 0 → ⊥) → MakesWith p name scid tape old (made.Refused n) old
     refuses-room h =
         let a = before-room (result sent) p (length name) (length scid) (length tape) (length old) .no (λ y. h (f ∙ y)) in
-        rw f (refuses (named ∙ a .0) (a .1))
+        rw f (refuses (past-name ∙ a .0) (a .1))
 
     pub makes-hello : {w : Wrote} {new : List ℕ} → n ≡ 0 → Room (hello p name scid tape) (length old) (length tape) → Puts (hello p name scid tape) w old new
         → MakesWith p name scid tape old (made.Hello (record { length = w .length; drawn = w .next })) new
     unfolding afterMakeWith
     makes-hello y r q =
         let a : makeWith p name scid tape (length old) ≡ result sent =
-        named ∙ before-room (result sent) p (length name) (length scid) (length tape) (length old) .yes (sym f ∙ y) in
+        past-name ∙ before-room (result sent) p (length name) (length scid) (length tape) (length old) .yes (sym f ∙ y) in
         record {
           is = rw (q .put .count, q .next) (sym a);
           output = rw a (q .put .output);
@@ -179,15 +121,20 @@ module _ (p : Profile) (name scid tape old : List ℕ) where
 -- ---- the answers of `generate_client_hello`
 
 module _ (browser : ℕ) (name scid tape old : List ℕ) where
+  told-is : (r : Made) → helloAnswer r ≡ makeOf browser name scid tape (length old) → helloTold r ≡ told noHello (makeOf browser name scid tape (length old))
+  told-is (made.Hello h) e = ap (told noHello) e
+  told-is (made.Refused n) e = ap (told noHello) e
+
   pub refuses-browser : 3 ≤ browser → Makes browser name scid tape old (made.Refused 4) old
   unfolding makeOf afterMake
   refuses-browser h =
       let no : ltb browser 3 ≡ false = le-ltb browser 3 h in
-      record { is = rw no; output = rw no; bounds = (lit≤ tt, lit≤ tt) }
+      record { is = rw no; tells = rw no; output = rw no; bounds = (lit≤ tt, lit≤ tt) }
 
   pub makes-browser : {r : Made} {new : List ℕ} (p : Profile) → browser < 3 → p ≡ forBrowser browser → MakesWith p name scid tape old r new
       → Makes browser name scid tape old r new
   unfolding makeOf afterMake afterMakeWith
-  makes-browser p h e m =
+  makes-browser {r} p h e m =
       let yes : ltb browser 3 ≡ true = lt-ltb browser 3 h in
-      record { is = m .is ∙ rw (yes, e); output = m .output ∙ rw (yes, e); bounds = m .bounds }
+      let is : helloAnswer r ≡ makeOf browser name scid tape (length old) = m .is ∙ rw (yes, e) in
+      record { is = is; tells = told-is r is; output = m .output ∙ rw (yes, e); bounds = m .bounds }

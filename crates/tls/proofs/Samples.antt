@@ -142,12 +142,8 @@ random-drawn p name scid tape =
     ap (take 32) (append-assoc (randBytes 32 tape 0) more extensions)
     ∙ take-at (randBytes 32 tape 0) (more ++ extensions) 32 (length-randBytes 32 tape 0)
 
--- so from two tapes that differ there come two hellos
-pub tape-tells : (p : Profile) (name scid : List ℕ)
-    → (hello p name scid (replicate 2000 0)) .bytes ≡ (hello p name scid (replicate 2000 1)) .bytes → ⊥
-unfolding randBytes
-tape-tells p name scid e =
-    let drawn : randBytes 32 (replicate 2000 0) 0 ≡ randBytes 32 (replicate 2000 1) 0 =
-    sym (random-drawn p name scid (replicate 2000 0)) ∙ ap (λ (bs : List ℕ). take 32 (drop 6 bs)) e ∙ random-drawn p name scid (replicate 2000 1) in
-    let zero-one : _≡_ {A = ℕ} 0 1 = ap (λ (bs : List ℕ). getD bs 0 0) drawn in
-    omega (arith, zero-one)
+-- so two hellos that are equal, of one profile, name and connection id, come from tapes whose first 32 bytes are the same
+pub tape-tells : (p : Profile) (name scid tape other : List ℕ)
+    → (hello p name scid tape) .bytes ≡ (hello p name scid other) .bytes → randBytes 32 tape 0 ≡ randBytes 32 other 0
+tape-tells p name scid tape other e =
+    sym (random-drawn p name scid tape) ∙ ap (λ (bs : List ℕ). take 32 (drop 6 bs)) e ∙ random-drawn p name scid other

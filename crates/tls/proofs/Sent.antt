@@ -173,7 +173,8 @@ piece-types p name scid tape (t ∷ ts) at h k =
           (and-right (ltb t 65536) (all (λ v. ltb v 65536) ts) k),
     )
 
--- The types read off the block are those of the order drawn: so they are the profile's, by `order-permutes`.
+-- The first two bytes of each extension of the block are its type: so in order they are the order drawn, a permutation of the profile's
+-- types (`order-permutes`).
 pub block-types : (p : Profile) (name scid tape : List ℕ) → passes p ≡ true → map typeOf (blockPieces p name scid tape) ≡ order p tape
 unfolding passes wordList
 block-types p name scid tape test =

@@ -5,7 +5,7 @@ use mathlib.Core.Bool.{Bool, _&&_}
 use mathlib.Core.List.{List}
 use lib.ListN.{length}
 use lib.Dec.{ltb, leb}
-use Rattle.wire.specs.Answer.{Answer, result, refused, ask, unlessRefused, IsNumber}
+use Rattle.wire.specs.Answer.{Answer, result, refused, Told, told, ask, unlessRefused, IsNumber}
 use Rattle.wire.specs.Front.{front}
 use Rattle.profiles.specs.Profile.{Profile, forBrowser}
 use Rattle.profiles.specs.Sizes.{longest, tapeNeeded}
@@ -24,7 +24,8 @@ unfoldable pub askName : {A : Type 0} → List ℕ → Answer A → Answer A
 askName name next = ask (leb 1 (length name) && leb (length name) 255) 5 (ask (plain name) 6 next)
 
 -- Connection id at most 20 bytes, for every profile? 7 Tape as long as the table says? 8 Output at least the hello's length with
--- P = 200? 9 The name has n bytes, the connection id s, the tape t.
+-- P = 200? 9 The name has n bytes, the connection id s, the tape t. The table is crates/profiles/specs/Table.antt; of any profile its
+-- numbers are sums (crates/profiles/specs/Sizes.antt), and for the three they are the table's (`table-length`, `table-tape`).
 unfoldable pub askRoom : {A : Type 0} → Profile → ℕ → ℕ → ℕ → ℕ → Answer A → Answer A
 askRoom p n s t room next = ask (leb s 20) 7 (ask (leb (tapeNeeded p) t) 8 (ask (leb (longest p n s) room) 9 next))
 
@@ -58,6 +59,14 @@ abbrev pub helloAnswer : Made → Answer Hello
 helloAnswer (made.Hello h) = result h
 helloAnswer (made.Refused n) = refused n
 
+-- the number and the values of each case; a refusal has length 0 and drawn 0
+abbrev pub noHello : Hello
+noHello = record { length = 0; drawn = 0 }
+
+abbrev pub helloTold : Made → Told Hello
+helloTold (made.Hello h) = record { number = 0; values = h }
+helloTold (made.Refused n) = record { number = n; values = noHello }
+
 abbrev pub MadeBounds : ℕ → ℕ → Made → Type 0
 MadeBounds room tape (made.Hello h) = (h .length ≤ room) × (h .drawn ≤ tape)
 MadeBounds room tape (made.Refused n) = IsNumber n
@@ -69,5 +78,6 @@ pub record MakesWith (p : Profile) (name scid tape old : List ℕ) (r : Made) (n
 
 pub record Makes (browser : ℕ) (name scid tape old : List ℕ) (r : Made) (new : List ℕ) : Type 0 where
   pub is : helloAnswer r ≡ makeOf browser name scid tape (length old)
+  pub tells : helloTold r ≡ told noHello (makeOf browser name scid tape (length old))
   pub output : new ≡ afterMake browser name scid tape old
   pub bounds : MadeBounds (length old) (length tape) r

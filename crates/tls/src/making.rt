@@ -150,8 +150,8 @@ fn is_plain(name: &[u8]) -> bool
     plain
 }
 
-// The name's questions: 5, 6, or 0 where both are answered "yes".
-fn name_refusal(name: &[u8]) -> u64
+// The name's questions: 5, 6, or 0 where both are answered "yes". What a caller needs of a name that passes is `named-bytes`.
+pub fn name_refusal(name: &[u8]) -> u64
     ensures { λ r. ⌜ r ≡ numberOf (askName (now (name .entry)) (result (tt {0}))) ⌝ }
 {
     if name.len() < 1 {

@@ -5,7 +5,7 @@ use denote.Ref.{now}
 use lib.ListN.{length, take}
 use lib.Seq.{take-all}
 use Rattle.tls.specs.Make
-use Rattle.tls.proofs.MakeLaws.{plain-none, plain-more}
+use Rattle.tls.proofs.NameLaws.{plain-none, plain-more}
 use borrow.Author.Needs.{needs}
 use native.Mathlib.Omega.{arith}
 use Rattle.tls.proofs.making.is_plain.Statement.{statement}

@@ -4,7 +4,7 @@ use lib.ListN.{length}
 use Rattle.profiles.specs.Code.{profileOf}
 use Rattle.tls.specs.Writing.{HelloRoom}
 use Rattle.tls.proofs.Sizes.{suffices, hello-fits}
-use Rattle.tls.proofs.MakeLaws.{short-name, hello-room, refuses-name, refuses-room, makes-hello}
+use Rattle.tls.proofs.MakeLaws.{named-as, hello-room, refuses-name, refuses-room, makes-hello}
 use native.Mathlib.Omega.{arith}
 use borrow.Author.Needs.{needs}
 use Rattle.tls.proofs.making.make_with.Statement.{statement}
@@ -35,7 +35,7 @@ returns c =
 room-refusal-requires : tie.Need-room-refusal-requires
 room-refusal-requires c κs =
     let start = c .before .before .before .before .before .before in
-    (start .pre, omega (arith, short-name (now (start .args .name)) (c .before .name-refusal .ensures) (c .if1 .left)))
+    (start .pre, omega (arith, (named-as (now (start .args .name)) (c .before .name-refusal .ensures) (c .if1 .left)) .short))
 
 returns-2 : tie.Need-returns-2
 returns-2 c =
