@@ -12,7 +12,7 @@ use Rattle.wire.proofs.NumberLaws.{bytes-drop}
 use Rattle.wire.proofs.VectorLaws.{length-vector}
 use Rattle.wire.proofs.SumLaws.{and-left, and-right}
 use Rattle.profiles.specs.Profile.{Profile}
-use Rattle.profiles.specs.Test.{all, sent}
+use Rattle.profiles.specs.Test.{all, known}
 use Rattle.profiles.proofs.TestLaws.{Words, Passed, nameOk, name-ok, all-below}
 use Rattle.tape.specs.Tape.{randBytes, nextU64, payloadLength}
 use Rattle.tape.specs.Part.{Part, undrawn}
@@ -40,20 +40,20 @@ unfolding extension vector digits
 after-head t body = refl
 
 module _ (p : Profile) (host scid tape : List ℕ) where
-  unread-bytes : (t at : ℕ) → sent p t ≡ true
+  unread-bytes : (t at : ℕ) → known t ≡ true
       → extension t (drop 4 ((buildExtension p host scid tape t at) .bytes)) ≡ (buildExtension p host scid tape t at) .bytes
   unread-bytes t at h =
       let shape = sent-shaped p host scid tape t at h in
       rw (shape .is, after-head t (shape .body))
 
-  pub extension-bytes : (t at : ℕ) → sent p t ≡ true
+  pub extension-bytes : (t at : ℕ) → known t ≡ true
       → encodeExtension (madeExtension p host scid tape t at) ≡ (buildExtension p host scid tape t at) .bytes
   unfolding
       encodeExtension madeExtension madeBody encodeBody kind buildExtension Extensions.extServerName Extensions.extAlpn Extensions.extU16List
       Extensions.extSupportedVersions Extensions.extKeyShare extQuicTp
   extension-bytes t at =
       by-kind
-      (λ t. sent p t ≡ true → encodeExtension (madeExtension p host scid tape t at) ≡ (buildExtension p host scid tape t at) .bytes)
+      (λ t. known t ≡ true → encodeExtension (madeExtension p host scid tape t at) ≡ (buildExtension p host scid tape t at) .bytes)
       (λ h. refl)
       (λ h. refl)
       (λ h. refl)
@@ -104,27 +104,38 @@ unfolding Extensions.extCompressCert extension vector words digits all
 certificates-bytes true at = fixed _ at refl
 certificates-bytes false at = fixed _ at refl
 
-settings-bytes : (there : Bool) (at : ℕ) → ByteExtension (undrawn (cond there Extensions.extApplicationSettings []) at)
-unfolding Extensions.extApplicationSettings extension vector digits all
-settings-bytes true at = fixed _ at refl
-settings-bytes false at = fixed _ at refl
+-- those whose bytes are the same in every hello
+record ByteList (bs : List ℕ) : Type 0 where
+  bytes : Bytes bs
+
+closed : (bs : List ℕ) → all (λ x. ltb x 256) bs ≡ true → ByteList bs
+closed bs e = record { bytes = all-below 256 bs (lit< tt) e }
+
+pick : (b : Bool) (x y : List ℕ) → ByteList x → ByteList y → ByteList (cond b x y)
+pick true x y h k = h
+pick false x y h k = k
+
+fixed-bytes : (t : ℕ) → ByteList (Extensions.fixedExtension t)
+unfolding
+    Extensions.fixedExtension Extensions.extPskKeModes Extensions.extRecordSizeLimit Extensions.extRenegInfo Extensions.extStatusRequest
+    Extensions.extExtendedMasterSecret Extensions.extDelegatedCredentials Extensions.extApplicationSettings Extensions.extU16List extension
+    vector words digits all
+fixed-bytes t =
+    pick (eqb t 0x002d) _ _ (closed _ refl)
+    (pick (eqb t 0x001c) _ _ (closed _ refl)
+    (pick (eqb t 0xff01) _ _ (closed _ refl)
+    (pick (eqb t 0x0005) _ _ (closed _ refl)
+    (pick (eqb t 0x0017) _ _ (closed _ refl)
+    (pick (eqb t 0x0022) _ _ (closed _ refl)
+    (pick (eqb t 0x44cd) _ _ (closed _ refl) (closed [] refl)))))))
 
 unread-part : (p : Profile) (host scid tape : List ℕ) (t at : ℕ) → Bytes tape → Unread t → ByteExtension (buildExtension p host scid tape t at)
-unfolding
-    buildExtension Extensions.extPskKeModes Extensions.extRecordSizeLimit Extensions.extRenegInfo Extensions.extStatusRequest
-    Extensions.extExtendedMasterSecret Extensions.extDelegatedCredentials Extensions.extU16List extension vector words digits all
+unfolding buildExtension
 unread-part p host scid tape t at drawn u =
     rw (u .not-name, u .not-protocols, u .not-groups, u .not-algorithms, u .not-versions, u .not-shares, u .not-parameters)
-    (either (eqb t 0x002d) _ _ (fixed _ at refl)
-    (either (eqb t 0x001b) _ _ (certificates-bytes (p .firefox) at)
-    (either (eqb t 0x001c) _ _ (fixed _ at refl)
-    (either (eqb t 0xff01) _ _ (fixed _ at refl)
-    (either (eqb t 0x0005) _ _ (fixed _ at refl)
-    (either (eqb t 0x0017) _ _ (fixed _ at refl)
-    (either (eqb t 0x0022) _ _ (fixed _ at refl)
-    (either (eqb t 0x44cd) _ _ (settings-bytes (p .includeUnknown17613) at)
-    (either (eqb t 0xfe0d) _ _ (either (p .enableEch) _ _ (ech-bytes tape at drawn) (fixed [] at refl))
-    (fixed [] at refl))))))))))
+    (either (eqb t 0x001b) _ _ (certificates-bytes (p .firefoxCompression) at)
+    (either (eqb t 0xfe0d) _ _ (ech-bytes tape at drawn)
+    (record { bytes = (fixed-bytes t) .bytes })))
 
 -- ---- its form
 
@@ -183,7 +194,7 @@ module _ (p : Profile) (host scid tape : List ℕ) (asked : Asked p host scid ta
       (λ u k h. rw (kind-unread u k) (bytes-drop 4 ((buildExtension p host scid tape u at) .bytes) ((unread-part p host scid tape u at (asked .tape-bytes) k) .bytes)))
       t
 
-  pub formed-extension : (t at : ℕ) → t < 65536 → sent p t ≡ true → length ((buildExtension p host scid tape t at) .bytes) ≤ 16384
+  pub formed-extension : (t at : ℕ) → t < 65536 → known t ≡ true → length ((buildExtension p host scid tape t at) .bytes) ≤ 16384
       → FormedExtension (madeExtension p host scid tape t at)
   unfolding madeExtension encodeExtension
   formed-extension t at small there short =

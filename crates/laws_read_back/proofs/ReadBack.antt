@@ -15,7 +15,7 @@ use Rattle.wire.proofs.VectorLaws.{length-vector}
 use Rattle.wire.proofs.SumLaws.{length-permutes, count-permutes, distinct-once, once-distinct, and-left, and-right}
 use Rattle.profiles.specs.Profile.{Profile}
 use Rattle.profiles.specs.Sizes.{sessionLength, afterOrder}
-use Rattle.profiles.specs.Test.{all, counted, wordList, sent, passes}
+use Rattle.profiles.specs.Test.{all, counted, wordList, known, passes}
 use Rattle.profiles.proofs.TestLaws.{Passed, passed}
 use Rattle.tape.specs.Tape.{randBytes}
 use Rattle.tape.proofs.DrawLaws.{length-randBytes}
@@ -46,17 +46,17 @@ module _ (p : Profile) (host scid tape : List ℕ) where
   types-made [] at = refl
   types-made (t ∷ ts) at = ap (λ (l : List ℕ). t ∷ l) (types-made ts ((buildExtension p host scid tape t at) .next))
 
-  extensions-bytes : (ts : List ℕ) (at : ℕ) → all (sent p) ts ≡ true
+  extensions-bytes : (ts : List ℕ) (at : ℕ) → all known ts ≡ true
       → encodeExtensions (madeExtensions p host scid tape ts at) ≡ (buildExtensions p host scid tape ts at) .bytes
   unfolding encodeExtensions madeExtensions buildExtensions all
   extensions-bytes [] at h = refl
   extensions-bytes (t ∷ ts) at h =
       rw (
-        extension-bytes p host scid tape t at (and-left (sent p t) (all (sent p) ts) h),
-        extensions-bytes ts ((buildExtension p host scid tape t at) .next) (and-right (sent p t) (all (sent p) ts) h),
+        extension-bytes p host scid tape t at (and-left (known t) (all known ts) h),
+        extensions-bytes ts ((buildExtension p host scid tape t at) .next) (and-right (known t) (all known ts) h),
       )
 
-  extensions-formed : Asked p host scid tape → Passed p → (ts : List ℕ) (at : ℕ) → all (sent p) ts ≡ true → all (λ t. ltb t 65536) ts ≡ true
+  extensions-formed : Asked p host scid tape → Passed p → (ts : List ℕ) (at : ℕ) → all known ts ≡ true → all (λ t. ltb t 65536) ts ≡ true
       → length ((buildExtensions p host scid tape ts at) .bytes) ≤ 16384
       → All FormedExtension (madeExtensions p host scid tape ts at)
   unfolding madeExtensions buildExtensions all
@@ -65,14 +65,14 @@ module _ (p : Profile) (host scid tape : List ℕ) where
       let next : ℕ = (buildExtension p host scid tape t at) .next in
       let both = length-append ((buildExtension p host scid tape t at) .bytes) ((buildExtensions p host scid tape ts next) .bytes) in (
         formed-extension p host scid tape asked facts t at (ltb-true t 65536 (and-left (ltb t 65536) (all (λ t. ltb t 65536) ts) k))
-            (and-left (sent p t) (all (sent p) ts) h) (omega arith),
-        extensions-formed asked facts ts next (and-right (sent p t) (all (sent p) ts) h) (and-right (ltb t 65536) (all (λ t. ltb t 65536) ts) k)
+            (and-left (known t) (all known ts) h) (omega arith),
+        extensions-formed asked facts ts next (and-right (known t) (all known ts) h) (and-right (ltb t 65536) (all (λ t. ltb t 65536) ts) k)
             (omega arith),
       )
 
   -- ---- the whole
 
-  value-bytes : all (sent p) (order p tape) ≡ true → encode (madeValue p host scid tape) ≡ (hello p host scid tape) .bytes
+  value-bytes : all known (order p tape) ≡ true → encode (madeValue p host scid tape) ≡ (hello p host scid tape) .bytes
   unfolding encode encodeFields madeValue hello body block fields
   value-bytes there =
       let extensions : List ℕ = vector 2 ((buildExtensions p host scid tape (order p tape) (afterOrder p)) .bytes) in
@@ -109,8 +109,8 @@ module _ (p : Profile) (host scid tape : List ℕ) where
     facts = passed p (asked .passing)
 
     -- all types are sent, and have two bytes, in the order drawn too
-    all-sent : all (sent p) (order p tape) ≡ true
-    all-sent = all-permutes (sent p) (p .extensionsOrder) (order p tape) (order-permutes p tape) (facts .types-sent)
+    all-sent : all known (order p tape) ≡ true
+    all-sent = all-permutes known (p .extensionsOrder) (order p tape) (order-permutes p tape) (facts .types-known)
 
     all-small : all (λ t. ltb t 65536) (order p tape) ≡ true
     all-small =

@@ -7,7 +7,7 @@ use borrow.Author.Tests.{lt-ltb}
 use Rattle.wire.specs.Sums.{total}
 use Rattle.varint.specs.Varint.{firstAbove, class}
 use Rattle.profiles.specs.Profile.{chromeProfile, firefoxProfile, curlProfile, forBrowser}
-use Rattle.profiles.specs.Sizes.{keyShareSize, keyDraws, parameterDraws, parameterLength, extensionExtent, helloLength, helloDrawn, tapeNeeded}
+use Rattle.profiles.specs.Sizes.{keyShareSize, keyDraws, parameterDraws, parameterLength, fixedLength, extensionExtent, helloLength, helloDrawn, tapeNeeded}
 use Rattle.profiles.specs.Table.{rowOf}
 
 -- a rule of a table of three, from its three rows
@@ -20,28 +20,28 @@ at-three P x y z (suc (suc (suc b))) h = absurd (omega arith)
 -- ---- each profile
 
 pub chrome-length : (n s pay : ℕ) → helloLength chromeProfile n s pay ≡ 1534 + n + pay
-unfolding chromeProfile helloLength extensionExtent total keyShareSize parameterLength class firstAbove
+unfolding chromeProfile helloLength extensionExtent fixedLength total keyShareSize parameterLength class firstAbove
 chrome-length n s pay = omega arith
 
 pub chrome-drawn : (pay : ℕ) → helloDrawn chromeProfile pay ≡ 1526 + pay
-unfolding chromeProfile helloDrawn extensionExtent total keyShareSize keyDraws parameterDraws
+unfolding chromeProfile helloDrawn extensionExtent fixedLength total keyShareSize keyDraws parameterDraws
 chrome-drawn pay = omega arith
 
 -- the connection id's length is itself written in one byte
 pub firefox-length : (n s pay : ℕ) → s < 64 → helloLength firefoxProfile n s pay ≡ 1633 + n + s + pay
-unfolding firefoxProfile helloLength extensionExtent total keyShareSize parameterLength class firstAbove
+unfolding firefoxProfile helloLength extensionExtent fixedLength total keyShareSize parameterLength class firstAbove
 firefox-length n s pay h = simp (lt-ltb s 64 h) (omega arith)
 
 pub firefox-drawn : (pay : ℕ) → helloDrawn firefoxProfile pay ≡ 1608 + pay
-unfolding firefoxProfile helloDrawn extensionExtent total keyShareSize keyDraws parameterDraws
+unfolding firefoxProfile helloDrawn extensionExtent fixedLength total keyShareSize keyDraws parameterDraws
 firefox-drawn pay = omega arith
 
 pub curl-length : (n s pay : ℕ) → helloLength curlProfile n s pay ≡ 290 + n + pay
-unfolding curlProfile helloLength extensionExtent total keyShareSize parameterLength class firstAbove
+unfolding curlProfile helloLength extensionExtent fixedLength total keyShareSize parameterLength class firstAbove
 curl-length n s pay = omega arith
 
 pub curl-drawn : (pay : ℕ) → helloDrawn curlProfile pay ≡ 216 + pay
-unfolding curlProfile helloDrawn extensionExtent total keyShareSize keyDraws parameterDraws
+unfolding curlProfile helloDrawn extensionExtent fixedLength total keyShareSize keyDraws parameterDraws
 curl-drawn pay = omega arith
 
 pub chrome-tape : tapeNeeded chromeProfile ≡ 1726

@@ -12,7 +12,7 @@ use Rattle.wire.specs.Sums.{member, distinct}
 use Rattle.wire.proofs.SumLaws.{and-left, and-right}
 use Rattle.profiles.specs.Profile.{varint, bytes, versionInfo, scidSource, Profile}
 use Rattle.profiles.specs.Sizes.{longest, tapeNeeded}
-use Rattle.profiles.specs.Test.{all, counted, wordList, idOf, idOk, parameterOk, sent, passes}
+use Rattle.profiles.specs.Test.{all, counted, wordList, idOf, idOk, parameterOk, known, passes}
 
 -- ---- a test of every element
 
@@ -62,7 +62,7 @@ nameOk name = counted 1 255 name && all (λ x. ltb x 256) name
 pub record Passed (p : Profile) : Type 0 where
   pub types : Words (p .extensionsOrder)
   pub types-once : distinct (p .extensionsOrder) ≡ true
-  pub types-sent : all (sent p) (p .extensionsOrder) ≡ true
+  pub types-known : all known (p .extensionsOrder) ≡ true
   pub named : member 0x0000 (p .extensionsOrder) ≡ true
   pub suites : Words (p .cipherSuites)
   pub groups : Words (p .supportedGroups)
@@ -82,7 +82,7 @@ unfolding passes
 passed p e0 =
     let e1 = and-right (wordList (p .extensionsOrder)) _ e0 in
     let e2 = and-right (distinct (p .extensionsOrder)) _ e1 in
-    let e3 = and-right (all (sent p) (p .extensionsOrder)) _ e2 in
+    let e3 = and-right (all known (p .extensionsOrder)) _ e2 in
     let e4 = and-right (member 0x0000 (p .extensionsOrder)) _ e3 in
     let e5 = and-right (wordList (p .cipherSuites)) _ e4 in
     let e6 = and-right (wordList (p .supportedGroups)) _ e5 in
@@ -97,7 +97,7 @@ passed p e0 =
     record {
       types = words (p .extensionsOrder) (and-left _ _ e0);
       types-once = and-left _ _ e1;
-      types-sent = and-left _ _ e2;
+      types-known = and-left _ _ e2;
       named = and-left _ _ e3;
       suites = words (p .cipherSuites) (and-left _ _ e4);
       groups = words (p .supportedGroups) (and-left _ _ e5);

@@ -11,7 +11,8 @@ pub data Parameter : Type 0 where
   scidSource : ℕ → Parameter
   grease : Parameter
 
--- `Profile`; firefox is `name == BrowserProfile::Firefox`
+-- `Profile`. A type that is listed is sent: two flags of the Rust's, with which it could be left out, are `true` wherever it is listed.
+-- firefoxCompression is `name == BrowserProfile::Firefox`, which plays a part in compress_certificate alone.
 pub record Profile : Type 0 where
   pub cipherSuites : List ℕ
   pub extensionsOrder : List ℕ
@@ -21,10 +22,8 @@ pub record Profile : Type 0 where
   pub keyShareGroups : List ℕ
   pub alpn : List (List ℕ)
   pub quicTp : List Parameter
-  pub firefox : Bool
-  pub includeUnknown17613 : Bool
+  pub firefoxCompression : Bool
   pub useEmptySessionId : Bool
-  pub enableEch : Bool
   pub randomizeExtensionsOrder : Bool
 
 -- "h3"
@@ -56,10 +55,8 @@ chromeProfile = record {
       ∷ varint 0x09 103
       ∷ grease
       ∷ [];
-  firefox = false;
-  includeUnknown17613 = true;
+  firefoxCompression = false;
   useEmptySessionId = true;
-  enableEch = true;
   randomizeExtensionsOrder = true;
 }
 
@@ -89,10 +86,8 @@ firefoxProfile = record {
       ∷ bytes 0xff02de1a (0x43 ∷ 0xe8 ∷ [])
       ∷ varint 0x20 65535
       ∷ [];
-  firefox = true;
-  includeUnknown17613 = false;
+  firefoxCompression = true;
   useEmptySessionId = true;
-  enableEch = true;
   randomizeExtensionsOrder = true;
 }
 
@@ -117,10 +112,8 @@ curlProfile = record {
       ∷ varint 0x0e 2
       ∷ bytes 0x0f []
       ∷ [];
-  firefox = false;
-  includeUnknown17613 = false;
+  firefoxCompression = false;
   useEmptySessionId = false;
-  enableEch = true;
   randomizeExtensionsOrder = false;
 }
 

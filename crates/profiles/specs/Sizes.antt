@@ -49,6 +49,17 @@ parameterLength s grease = entryLength 8 6
 
 -- ---- Extensions: each has a type and a length, of two bytes each, before its body
 
+-- those whose bytes are the same in every hello
+unfoldable pub fixedLength : ℕ → ℕ
+fixedLength t =
+    cond (eqb t 0x002d) 6
+    (cond (eqb t 0x001c) 6
+    (cond (eqb t 0xff01) 5
+    (cond (eqb t 0x0005) 9
+    (cond (eqb t 0x0017) 4
+    (cond (eqb t 0x0022) 14
+    (cond (eqb t 0x44cd) 9 0))))))
+
 unfoldable pub extensionExtent : Profile → ℕ → ℕ → ℕ → ℕ → Extent
 extensionExtent p n s pay t =
     cond (eqb t 0x0000) (written-only (9 + n))
@@ -56,7 +67,6 @@ extensionExtent p n s pay t =
     (cond (eqb t 0x000a) (written-only (6 + 2 * length (p .supportedGroups)))
     (cond (eqb t 0x000d) (written-only (6 + 2 * length (p .signatureAlgorithms)))
     (cond (eqb t 0x002b) (written-only (5 + 2 * length (p .supportedVersions)))
-    (cond (eqb t 0x002d) (written-only 6)
     (cond (eqb t 0x0033)
     (record { written = 6 + total (λ g. 4 + keyShareSize g) (p .keyShareGroups); drawn = total keyDraws (p .keyShareGroups) })
     (cond (eqb t 0x0039)
@@ -64,15 +74,9 @@ extensionExtent p n s pay t =
       written = 4 + total (parameterLength s) (p .quicTp);
       drawn = total parameterDraws (p .quicTp) + 8 * (length (p .quicTp) - 1);
     })
-    (cond (eqb t 0x001b) (written-only (cond (p .firefox) 11 7))
-    (cond (eqb t 0x001c) (written-only 6)
-    (cond (eqb t 0xff01) (written-only 5)
-    (cond (eqb t 0x0005) (written-only 9)
-    (cond (eqb t 0x0017) (written-only 4)
-    (cond (eqb t 0x0022) (written-only 14)
-    (cond (eqb t 0x44cd) (written-only (cond (p .includeUnknown17613) 9 0))
-    (cond (eqb t 0xfe0d) (cond (p .enableEch) (record { written = 46 + pay; drawn = 48 + pay }) (written-only 0))
-    (written-only 0))))))))))))))))
+    (cond (eqb t 0x001b) (written-only (cond (p .firefoxCompression) 11 7))
+    (cond (eqb t 0xfe0d) (record { written = 46 + pay; drawn = 48 + pay })
+    (written-only (fixedLength t))))))))))
 
 -- ---- The hello
 

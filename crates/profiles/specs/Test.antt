@@ -1,6 +1,6 @@
 -- What every proof needs of a profile, as a test that computes.
 use Prim.Native.Nat.{ℕ, _^_}
-use mathlib.Core.Bool.{Bool, true, cond, not, _&&_}
+use mathlib.Core.Bool.{Bool, true, not, _&&_}
 use mathlib.Core.List.{List, [], _∷_, map}
 use lib.ListN.{length}
 use lib.Dec.{eqb, ltb, leb}
@@ -40,19 +40,19 @@ parameterOk (versionInfo i) = eqb i 0x11
 parameterOk (scidSource i) = idOk i
 parameterOk grease = true
 
--- the types that `build_extension` knows; two are written only where the profile says so
-abbrev pub known : List ℕ
-known =
-    0x0000 ∷ 0x0005 ∷ 0x000a ∷ 0x000d ∷ 0x0010 ∷ 0x0017 ∷ 0x001b ∷ 0x001c ∷ 0x0022 ∷ 0x002b ∷ 0x002d ∷ 0x0033 ∷ 0x0039 ∷ 0xff01 ∷ []
+-- the types that `build_extension` knows
+abbrev pub knownTypes : List ℕ
+knownTypes =
+    0x0000 ∷ 0x0005 ∷ 0x000a ∷ 0x000d ∷ 0x0010 ∷ 0x0017 ∷ 0x001b ∷ 0x001c ∷ 0x0022 ∷ 0x002b ∷ 0x002d ∷ 0x0033 ∷ 0x0039 ∷ 0x44cd ∷ 0xfe0d ∷ 0xff01 ∷ []
 
-unfoldable pub sent : Profile → ℕ → Bool
-sent p t = cond (eqb t 0x44cd) (p .includeUnknown17613) (cond (eqb t 0xfe0d) (p .enableEch) (member t known))
+unfoldable pub known : ℕ → Bool
+known t = member t knownTypes
 
--- types once each and all sent, server_name among them; lists within the report's counts; protocols of 1 to 255 bytes; parameter ids
+-- types once each and all known, server_name among them; lists within the report's counts; protocols of 1 to 255 bytes; parameter ids
 -- once each; every hello of at most 2^14 bytes, so that the joiner takes it and each length has its place
 unfoldable pub passes : Profile → Bool
 passes p =
-    wordList (p .extensionsOrder) && (distinct (p .extensionsOrder) && (all (sent p) (p .extensionsOrder) && (member 0x0000 (p .extensionsOrder)
+    wordList (p .extensionsOrder) && (distinct (p .extensionsOrder) && (all known (p .extensionsOrder) && (member 0x0000 (p .extensionsOrder)
     && (wordList (p .cipherSuites) && (wordList (p .supportedGroups) && (wordList (p .signatureAlgorithms) && (wordList (p .supportedVersions)
     && (wordList (p .keyShareGroups)
     && (counted 1 16 (p .alpn) && (all (λ name. counted 1 255 name && all (λ x. ltb x 256) name) (p .alpn)

@@ -1,8 +1,8 @@
-// The tables, and a profile's row of each: Chrome, Firefox, curl.
-ghost use mathlib.Core.Path.{_≡_};
-ghost use Prim.Native.Nat.{_<_};
-ghost use Rattle.profiles.specs.Code.{tpBytes, Chosen, Entries};
-use crate::Profile;
+// The tables of profiles.rs, a row for each profile: Chrome, Firefox, curl. A row has room for what a customer may list; a count says
+// where it ends.
+use crate::ExtType;
+use crate::Group;
+use crate::Parameter;
 use crate::TpEntry;
 use crate::ext::ALPN;
 use crate::ext::APPLICATION_SETTINGS;
@@ -26,13 +26,73 @@ use crate::named_groups::SECP384R1;
 use crate::named_groups::SECP521R1;
 use crate::named_groups::X25519;
 
-const CIPHER_SUITES: [[u16; 3]; 3] = [
-    [0x1301, 0x1302, 0x1303],
-    [0x1301, 0x1303, 0x1302],
-    [0x1301, 0x1302, 0x1303],
+// What stands past the end of a list of types, of groups, of parameters.
+const NO_TYPE: ExtType = ExtType(0);
+
+const NO_GROUP: Group = Group(0);
+
+const NONE: Parameter = Parameter(TpEntry::Varint(0, 0));
+
+pub const CIPHER_SUITES: [[u16; 16]; 3] = [
+    [
+        0x1301,
+        0x1302,
+        0x1303,
+        0,
+        0,
+        0,
+        0,
+        0,
+        0,
+        0,
+        0,
+        0,
+        0,
+        0,
+        0,
+        0,
+    ],
+    [
+        0x1301,
+        0x1303,
+        0x1302,
+        0,
+        0,
+        0,
+        0,
+        0,
+        0,
+        0,
+        0,
+        0,
+        0,
+        0,
+        0,
+        0,
+    ],
+    [
+        0x1301,
+        0x1302,
+        0x1303,
+        0,
+        0,
+        0,
+        0,
+        0,
+        0,
+        0,
+        0,
+        0,
+        0,
+        0,
+        0,
+        0,
+    ],
 ];
 
-const EXTENSIONS_ORDER: [[u16; 15]; 3] = [
+pub const SUITE_COUNTS: [usize; 3] = [3, 3, 3];
+
+pub const EXTENSIONS_ORDER: [[ExtType; 16]; 3] = [
     [
         SERVER_NAME,
         SUPPORTED_GROUPS,
@@ -45,10 +105,11 @@ const EXTENSIONS_ORDER: [[u16; 15]; 3] = [
         QUIC_TRANSPORT_PARAMS,
         APPLICATION_SETTINGS,
         ENCRYPTED_CLIENT_HELLO,
-        0,
-        0,
-        0,
-        0,
+        NO_TYPE,
+        NO_TYPE,
+        NO_TYPE,
+        NO_TYPE,
+        NO_TYPE,
     ],
     [
         SERVER_NAME,
@@ -66,6 +127,7 @@ const EXTENSIONS_ORDER: [[u16; 15]; 3] = [
         SUPPORTED_VERSIONS,
         QUIC_TRANSPORT_PARAMS,
         ENCRYPTED_CLIENT_HELLO,
+        NO_TYPE,
     ],
     [
         SERVER_NAME,
@@ -78,25 +140,53 @@ const EXTENSIONS_ORDER: [[u16; 15]; 3] = [
         QUIC_TRANSPORT_PARAMS,
         COMPRESS_CERTIFICATE,
         ENCRYPTED_CLIENT_HELLO,
-        0,
-        0,
-        0,
-        0,
-        0,
+        NO_TYPE,
+        NO_TYPE,
+        NO_TYPE,
+        NO_TYPE,
+        NO_TYPE,
+        NO_TYPE,
     ],
 ];
 
-const EXTENSION_COUNTS: [usize; 3] = [11, 15, 10];
+pub const EXTENSION_COUNTS: [usize; 3] = [11, 15, 10];
 
-const GROUPS: [[u16; 5]; 3] = [
-    [PQ_HYBRID_GROUP, X25519, SECP256R1, SECP384R1, 0],
-    [PQ_HYBRID_GROUP, X25519, SECP256R1, SECP384R1, SECP521R1],
-    [X25519, SECP256R1, SECP384R1, 0, 0],
+pub const GROUPS: [[Group; 8]; 3] = [
+    [
+        PQ_HYBRID_GROUP,
+        X25519,
+        SECP256R1,
+        SECP384R1,
+        NO_GROUP,
+        NO_GROUP,
+        NO_GROUP,
+        NO_GROUP,
+    ],
+    [
+        PQ_HYBRID_GROUP,
+        X25519,
+        SECP256R1,
+        SECP384R1,
+        SECP521R1,
+        NO_GROUP,
+        NO_GROUP,
+        NO_GROUP,
+    ],
+    [
+        X25519,
+        SECP256R1,
+        SECP384R1,
+        NO_GROUP,
+        NO_GROUP,
+        NO_GROUP,
+        NO_GROUP,
+        NO_GROUP,
+    ],
 ];
 
-const GROUP_COUNTS: [usize; 3] = [4, 5, 3];
+pub const GROUP_COUNTS: [usize; 3] = [4, 5, 3];
 
-const ALGORITHMS: [[u16; 11]; 3] = [
+pub const ALGORITHMS: [[u16; 16]; 3] = [
     [
         0x0403,
         0x0804,
@@ -107,6 +197,11 @@ const ALGORITHMS: [[u16; 11]; 3] = [
         0x0806,
         0x0601,
         0x0201,
+        0,
+        0,
+        0,
+        0,
+        0,
         0,
         0,
     ],
@@ -122,6 +217,11 @@ const ALGORITHMS: [[u16; 11]; 3] = [
         0x0501,
         0x0601,
         0x0201,
+        0,
+        0,
+        0,
+        0,
+        0,
     ],
     [
         0x0403,
@@ -135,141 +235,107 @@ const ALGORITHMS: [[u16; 11]; 3] = [
         0,
         0,
         0,
+        0,
+        0,
+        0,
+        0,
+        0,
     ],
 ];
 
-const ALGORITHM_COUNTS: [usize; 3] = [9, 11, 6];
+pub const ALGORITHM_COUNTS: [usize; 3] = [9, 11, 6];
 
-const VERSIONS: [[u16; 1]; 3] = [[0x0304], [0x0304], [0x0304]];
+pub const VERSIONS: [[u16; 4]; 3] = [[0x0304, 0, 0, 0], [0x0304, 0, 0, 0], [0x0304, 0, 0, 0]];
 
-const SHARES: [[u16; 3]; 3] = [
-    [PQ_HYBRID_GROUP, X25519, 0],
-    [PQ_HYBRID_GROUP, X25519, SECP256R1],
-    [X25519, 0, 0],
+pub const VERSION_COUNTS: [usize; 3] = [1, 1, 1];
+
+pub const SHARES: [[Group; 4]; 3] = [
+    [PQ_HYBRID_GROUP, X25519, NO_GROUP, NO_GROUP],
+    [PQ_HYBRID_GROUP, X25519, SECP256R1, NO_GROUP],
+    [X25519, NO_GROUP, NO_GROUP, NO_GROUP],
 ];
 
-const SHARE_COUNTS: [usize; 3] = [2, 3, 1];
+pub const SHARE_COUNTS: [usize; 3] = [2, 3, 1];
 
 // "h3"
-const PROTOCOLS: [[u8; 2]; 3] = [[0x68, 0x33], [0x68, 0x33], [0x68, 0x33]];
+pub const PROTOCOLS: [[u8; 2]; 3] = [[0x68, 0x33], [0x68, 0x33], [0x68, 0x33]];
 
-const CHROME_TP: [TpEntry; 13] = [
-    TpEntry::Varint(0x04, 15728640),
-    TpEntry::Bytes(0x0f, 0),
-    TpEntry::Varint(0x07, 6291456),
-    TpEntry::Varint(0x05, 6291456),
-    TpEntry::Varint(0x03, 1472),
-    TpEntry::Varint(0x06, 6291456),
-    TpEntry::Varint(0x08, 100),
-    TpEntry::Varint(0x3127, 18196),
-    TpEntry::Varint(0x20, 65536),
-    TpEntry::VersionInfo(0x11),
-    TpEntry::Varint(0x01, 30000),
-    TpEntry::Varint(0x09, 103),
-    TpEntry::Grease,
+const CHROME_PARAMETERS: [Parameter; 16] = [
+    Parameter(TpEntry::Varint(0x04, 15728640)),
+    Parameter(TpEntry::Bytes(0x0f, 0)),
+    Parameter(TpEntry::Varint(0x07, 6291456)),
+    Parameter(TpEntry::Varint(0x05, 6291456)),
+    Parameter(TpEntry::Varint(0x03, 1472)),
+    Parameter(TpEntry::Varint(0x06, 6291456)),
+    Parameter(TpEntry::Varint(0x08, 100)),
+    Parameter(TpEntry::Varint(0x3127, 18196)),
+    Parameter(TpEntry::Varint(0x20, 65536)),
+    Parameter(TpEntry::VersionInfo(0x11)),
+    Parameter(TpEntry::Varint(0x01, 30000)),
+    Parameter(TpEntry::Varint(0x09, 103)),
+    Parameter(TpEntry::Grease),
+    NONE,
+    NONE,
+    NONE,
 ];
 
-const FIREFOX_TP: [TpEntry; 13] = [
-    TpEntry::Varint(0x01, 30000),
-    TpEntry::Varint(0x04, 25165824),
-    TpEntry::Varint(0x05, 12582912),
-    TpEntry::Varint(0x06, 1048576),
-    TpEntry::Varint(0x07, 1048576),
-    TpEntry::Varint(0x08, 100),
-    TpEntry::Varint(0x09, 100),
-    TpEntry::Varint(0x0b, 20),
-    TpEntry::Varint(0x0e, 8),
-    TpEntry::ScidSource(0x0f),
-    TpEntry::VersionInfo(0x11),
-    TpEntry::Bytes(0xff02de1a, 2),
-    TpEntry::Varint(0x20, 65535),
+const FIREFOX_PARAMETERS: [Parameter; 16] = [
+    Parameter(TpEntry::Varint(0x01, 30000)),
+    Parameter(TpEntry::Varint(0x04, 25165824)),
+    Parameter(TpEntry::Varint(0x05, 12582912)),
+    Parameter(TpEntry::Varint(0x06, 1048576)),
+    Parameter(TpEntry::Varint(0x07, 1048576)),
+    Parameter(TpEntry::Varint(0x08, 100)),
+    Parameter(TpEntry::Varint(0x09, 100)),
+    Parameter(TpEntry::Varint(0x0b, 20)),
+    Parameter(TpEntry::Varint(0x0e, 8)),
+    Parameter(TpEntry::ScidSource(0x0f)),
+    Parameter(TpEntry::VersionInfo(0x11)),
+    Parameter(TpEntry::Bytes(0xff02de1a, 2)),
+    Parameter(TpEntry::Varint(0x20, 65535)),
+    NONE,
+    NONE,
+    NONE,
 ];
 
-const CURL_TP: [TpEntry; 13] = [
-    TpEntry::Varint(0x01, 30000),
-    TpEntry::Varint(0x03, 1472),
-    TpEntry::Varint(0x04, 10485760),
-    TpEntry::Varint(0x05, 5242880),
-    TpEntry::Varint(0x06, 5242880),
-    TpEntry::Varint(0x07, 5242880),
-    TpEntry::Varint(0x08, 100),
-    TpEntry::Varint(0x09, 100),
-    TpEntry::Varint(0x0e, 2),
-    TpEntry::Bytes(0x0f, 0),
-    TpEntry::Grease,
-    TpEntry::Grease,
-    TpEntry::Grease,
+const CURL_PARAMETERS: [Parameter; 16] = [
+    Parameter(TpEntry::Varint(0x01, 30000)),
+    Parameter(TpEntry::Varint(0x03, 1472)),
+    Parameter(TpEntry::Varint(0x04, 10485760)),
+    Parameter(TpEntry::Varint(0x05, 5242880)),
+    Parameter(TpEntry::Varint(0x06, 5242880)),
+    Parameter(TpEntry::Varint(0x07, 5242880)),
+    Parameter(TpEntry::Varint(0x08, 100)),
+    Parameter(TpEntry::Varint(0x09, 100)),
+    Parameter(TpEntry::Varint(0x0e, 2)),
+    Parameter(TpEntry::Bytes(0x0f, 0)),
+    NONE,
+    NONE,
+    NONE,
+    NONE,
+    NONE,
+    NONE,
 ];
 
-const PARAMETER_COUNTS: [usize; 3] = [13, 13, 10];
+pub const PARAMETERS: [[Parameter; 16]; 3] = [
+    CHROME_PARAMETERS,
+    FIREFOX_PARAMETERS,
+    CURL_PARAMETERS,
+];
 
-const TP_BYTES: [u8; 2] = [0x43, 0xe8];
+pub const PARAMETER_COUNTS: [usize; 3] = [13, 13, 10];
 
-const FIREFOX: [bool; 3] = [false, true, false];
+pub const TP_BYTES: [u8; 2] = [0x43, 0xe8];
 
-const INCLUDE_UNKNOWN_17613: [bool; 3] = [true, false, false];
+pub const FIREFOX_COMPRESSION: [bool; 3] = [false, true, false];
 
-const USE_EMPTY_SESSION_ID: [bool; 3] = [true, true, false];
+pub const USE_EMPTY_SESSION_ID: [bool; 3] = [true, true, false];
 
-const ENABLE_ECH: [bool; 3] = [true, true, true];
-
-const RANDOMIZE_EXTENSIONS_ORDER: [bool; 3] = [true, true, false];
+pub const RANDOMIZE_EXTENSIONS_ORDER: [bool; 3] = [true, true, false];
 
 // Document 01's table: tape needed; hello length with P = 200, but for n and s; whether s is in it.
-const TAPE_NEEDED: [usize; 3] = [1726, 1808, 416];
+pub const TAPE_NEEDED: [usize; 3] = [1726, 1808, 416];
 
-const LONGEST: [usize; 3] = [1734, 1833, 490];
+pub const LONGEST: [usize; 3] = [1734, 1833, 490];
 
-const SCID_SOURCES: [usize; 3] = [0, 1, 0];
-
-// The profile of a browser: 0 is Chrome, 1 Firefox, 2 curl.
-pub fn for_browser(browser: usize) -> Profile
-    requires { ⌜ browser < 3 ⌝ }
-    ensures { λ r. ⌜ Chosen browser r ⌝ }
-{
-    Profile {
-        cipher_suites: CIPHER_SUITES[browser],
-        suite_count: 3,
-        extensions_order: EXTENSIONS_ORDER[browser],
-        extension_count: EXTENSION_COUNTS[browser],
-        supported_groups: GROUPS[browser],
-        group_count: GROUP_COUNTS[browser],
-        signature_algorithms: ALGORITHMS[browser],
-        algorithm_count: ALGORITHM_COUNTS[browser],
-        supported_versions: VERSIONS[browser],
-        version_count: 1,
-        key_share_groups: SHARES[browser],
-        share_count: SHARE_COUNTS[browser],
-        alpn: PROTOCOLS[browser],
-        quic_tp: browser,
-        parameter_count: PARAMETER_COUNTS[browser],
-        firefox: FIREFOX[browser],
-        include_unknown_17613: INCLUDE_UNKNOWN_17613[browser],
-        use_empty_session_id: USE_EMPTY_SESSION_ID[browser],
-        enable_ech: ENABLE_ECH[browser],
-        randomize_extensions_order: RANDOMIZE_EXTENSIONS_ORDER[browser],
-        tape_needed: TAPE_NEEDED[browser],
-        longest: LONGEST[browser],
-        scid_sources: SCID_SOURCES[browser],
-    }
-}
-
-// The transport parameters of a row. Each row is a constant of its own: a table of enums that is indexed by a variable is laid out
-// anew, all of it, at each call.
-pub fn parameters(row: usize) -> [TpEntry; 13]
-    requires { ⌜ row < 3 ⌝ }
-    ensures { λ r. ⌜ Entries row r ⌝ }
-{
-    match row {
-        0 => CHROME_TP,
-        1 => FIREFOX_TP,
-        _ => CURL_TP,
-    }
-}
-
-// The bytes that values of `TpEntry::Bytes` are fronts of.
-pub fn tp_bytes() -> [u8; 2]
-    ensures { λ r. ⌜ r ≡ tpBytes ⌝ }
-{
-    TP_BYTES
-}
+pub const SCID_SOURCES: [usize; 3] = [0, 1, 0];

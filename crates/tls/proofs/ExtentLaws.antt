@@ -45,18 +45,11 @@ module _ (R : Extent → Extent → Type 0) (same : (e : Extent) → R e e) wher
       (either (eqb t 0x000a) (same _)
       (either (eqb t 0x000d) (same _)
       (either (eqb t 0x002b) (same _)
-      (either (eqb t 0x002d) (same _)
       (either (eqb t 0x0033) (same _)
       (either (eqb t 0x0039) parameters
       (either (eqb t 0x001b) (same _)
-      (either (eqb t 0x001c) (same _)
-      (either (eqb t 0xff01) (same _)
-      (either (eqb t 0x0005) (same _)
-      (either (eqb t 0x0017) (same _)
-      (either (eqb t 0x0022) (same _)
-      (either (eqb t 0x44cd) (same _)
-      (when (eqb t 0xfe0d) (λ e. either (p .enableEch) (ech e) (same _))
-      (same _))))))))))))))))
+      (when (eqb t 0xfe0d) ech
+      (same _)))))))))
 
 -- ---- what is drawn
 

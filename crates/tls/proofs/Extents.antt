@@ -10,10 +10,10 @@ use lib.ListN.{length}
 use lib.Dec.{eqb}
 use Rattle.wire.specs.Sums.{total}
 use Rattle.profiles.specs.Profile.{Parameter, Profile}
-use Rattle.profiles.specs.Sizes.{Extent, written-only, keyShareSize, keyDraws, parameterDraws, parameterLength, extensionExtent}
+use Rattle.profiles.specs.Sizes.{Extent, written-only, keyShareSize, keyDraws, parameterDraws, parameterLength, fixedLength, extensionExtent}
 use Rattle.tape.specs.Tape.{nextU64, payloadLength}
 use Rattle.tape.specs.Part.{Part, undrawn}
-use Rattle.tls_extensions.specs.Extensions.{extKeyShare, extApplicationSettings, extEncryptedClientHello}
+use Rattle.tls_extensions.specs.Extensions.{extKeyShare, extEncryptedClientHello, fixedExtension}
 use Rattle.tls_extensions.proofs.LengthLaws as law
 use Rattle.tls_parameters.specs.Parameters.{extQuicTp}
 use Rattle.tls_parameters.proofs.LengthLaws.{length-ext-quic-tp, next-ext-quic-tp}
@@ -44,9 +44,21 @@ ech : (tape : List ℕ) (at pay : ℕ) → pay ≡ payloadLength (nextU64 tape (
 unfolding extEncryptedClientHello
 ech tape at pay h = record { long = omega (arith, law.length-encrypted-client-hello tape at); ends = omega arith }
 
-settings : (b : Bool) → length (cond b extApplicationSettings []) ≡ cond b 9 0
-settings true = law.length-application-settings
-settings false = refl
+-- those whose bytes are the same in every hello
+pick : (b : Bool) (x y : List ℕ) {m n : ℕ} → length x ≡ m → length y ≡ n → length (cond b x y) ≡ cond b m n
+pick true x y h k = h
+pick false x y h k = k
+
+fixed-length : (t : ℕ) → length (fixedExtension t) ≡ fixedLength t
+unfolding fixedExtension fixedLength
+fixed-length t =
+    pick (eqb t 0x002d) _ _ law.length-psk-ke-modes
+    (pick (eqb t 0x001c) _ _ law.length-record-size-limit
+    (pick (eqb t 0xff01) _ _ law.length-reneg-info
+    (pick (eqb t 0x0005) _ _ law.length-status-request
+    (pick (eqb t 0x0017) _ _ law.length-extended-master-secret
+    (pick (eqb t 0x0022) _ _ law.length-delegated-credentials
+    (pick (eqb t 0x44cd) _ _ law.length-application-settings refl))))))
 
 either : (at : ℕ) (b : Bool) (x y : Part) {d e : Extent} → Extends at x d → Extends at y e → Extends at (cond b x y) (cond b d e)
 either at true x y h k = h
@@ -69,18 +81,11 @@ extension-extent p name scid tape t at pay h =
     (either at (eqb t 0x000a) _ _ (still (law.length-u16-list 0x000a (p .supportedGroups)))
     (either at (eqb t 0x000d) _ _ (still (law.length-u16-list 0x000d (p .signatureAlgorithms)))
     (either at (eqb t 0x002b) _ _ (still (law.length-supported-versions (p .supportedVersions)))
-    (either at (eqb t 0x002d) _ _ (still law.length-psk-ke-modes)
     (either at (eqb t 0x0033) _ _ (key-share (p .keyShareGroups) tape at)
     (either at (eqb t 0x0039) _ _ (quic-tp (p .quicTp) scid tape at)
-    (either at (eqb t 0x001b) _ _ (still (law.length-compress-cert (p .firefox)))
-    (either at (eqb t 0x001c) _ _ (still law.length-record-size-limit)
-    (either at (eqb t 0xff01) _ _ (still law.length-reneg-info)
-    (either at (eqb t 0x0005) _ _ (still law.length-status-request)
-    (either at (eqb t 0x0017) _ _ (still law.length-extended-master-secret)
-    (either at (eqb t 0x0022) _ _ (still law.length-delegated-credentials)
-    (either at (eqb t 0x44cd) _ _ (still (settings (p .includeUnknown17613)))
-    (when at (eqb t 0xfe0d) _ _ (λ e. either at (p .enableEch) _ _ (ech tape at pay (h e)) (still refl))
-    (still refl))))))))))))))))
+    (either at (eqb t 0x001b) _ _ (still (law.length-compress-cert (p .firefoxCompression)))
+    (when at (eqb t 0xfe0d) _ _ (λ e. ech tape at pay (h e))
+    (still (fixed-length t))))))))))
 
 -- ---- places on the tape rise
 

@@ -1,7 +1,7 @@
 -- The parts of a hello: the fields before the extensions, the block of extensions, the body, and the whole. Assumes nothing.
 use Prim.Native.Nat.{ℕ, suc, _+_, _*_, _≤_, _<_}
 use mathlib.Core.Path.{_≡_, refl, sym, ap, _∙_}
-use mathlib.Core.List.{List, [], _∷_, _++_, append-assoc}
+use mathlib.Core.List.{List, [], _∷_, _++_, append-assoc, map}
 use native.Mathlib.Nat.{mod-eq-of-lt}
 use native.Mathlib.Omega.{arith}
 use lib.ListN.{length, length-append}
@@ -14,7 +14,7 @@ use Rattle.wire.proofs.VectorLaws.{length-vector, length-words}
 use Rattle.wire.proofs.Writing.{Writing, lentFrom, backFrom, filled, writes, first-written, last-written, last-room, length-back}
 use Rattle.profiles.specs.Profile.{Profile}
 use Rattle.profiles.specs.Sizes.{sessionLength, afterOrder}
-use Rattle.profiles.specs.Code.{profileOf, Sound}
+use Rattle.profiles.specs.Code.{typeNumber, profileOf, Sound}
 use Rattle.profiles.specs.declared.Profile as code
 use Rattle.tape.specs.Tape.{randBytes}
 use Rattle.tape.specs.Part.{Puts}
@@ -101,7 +101,7 @@ module _ (p : code.Profile) (name scid tape : List ℕ) where
   extensions = (block P name scid tape) .bytes
 
   module _ {places : List ℕ} {next : ℕ} (o : Ordered p tape places next) where
-    block-is : buildExtensions P name scid tape (typesAt (p .«extensions_order») places) next ≡ block P name scid tape
+    block-is : buildExtensions P name scid tape (typesAt (map typeNumber (p .«extensions_order»)) places) next ≡ block P name scid tape
     unfolding block
     block-is = rw (o .types, o .after)
 
@@ -124,7 +124,7 @@ module _ (p : code.Profile) (name scid tape : List ℕ) where
         }
 
     module _ (old : List ℕ) {part : List ℕ} {w : Wrote} (r : BlockRoom p name scid tape (length old))
-        (q : Puts (buildExtensions (profileOf p) name scid tape (typesAt (p .«extensions_order») places) next) w (lentFrom 2 old) part) where
+        (q : Puts (buildExtensions (profileOf p) name scid tape (typesAt (map typeNumber (p .«extensions_order»)) places) next) w (lentFrom 2 old) part) where
       put-block : Puts (block P name scid tape) w (lentFrom 2 old) part
       put-block = rw block-is at q
 

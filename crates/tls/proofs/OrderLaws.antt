@@ -5,10 +5,11 @@ use mathlib.Core.Bool.{Bool, true, false, cond}
 use mathlib.Core.List.{List, _++_, map}
 use native.Mathlib.Nat.{le-of-suc-le-suc}
 use native.Mathlib.Omega.{arith}
-use lib.ListN.{length, take, getD, length-append}
-use lib.Seq.{take-at, length-take-le}
+use lib.ListN.{length, take, getD, length-append, length-map}
+use lib.Seq.{take-at}
 use Rattle.profiles.specs.Sizes.{sessionLength, afterOrder}
-use Rattle.profiles.specs.Code.{profileOf, Sound}
+use Rattle.wire.proofs.ListLaws.{map-take, length-firsts}
+use Rattle.profiles.specs.Code.{typeNumber, profileOf, Sound}
 use Rattle.profiles.specs.declared.Profile.{Profile}
 use Rattle.tape.specs.Tape.{shuffle}
 use Rattle.tape.proofs.ShuffleLaws.{shuffle-default, length-shuffle, shuffle-map, upto, length-upto, firstPlaces, first-places, map-upto, shuffle-within}
@@ -46,11 +47,11 @@ places-types false n types tape at h = map-upto 0 types 0 n (omega arith)
 
 -- what the writer of the extensions is given: their places in order, and the place on the tape after the shuffle
 pub record Ordered (p : Profile) (tape order : List ℕ) (next : ℕ) : Type 0 where
-  pub types : typesAt (p .«extensions_order») order ≡ orderOf (profileOf p) tape
-  pub below : (j : ℕ) → j < length order → getD order j 0 < 15
+  pub types : typesAt (map typeNumber (p .«extensions_order»)) order ≡ orderOf (profileOf p) tape
+  pub below : (j : ℕ) → j < length order → getD order j 0 < 16
   pub after : next ≡ afterOrder (profileOf p)
 
-module _ (p : Profile) (sound : Sound p) (long : length (p .«extensions_order») ≡ 15) {at : ℕ} (e : at ≡ 32 + sessionLength (profileOf p)) where
+module _ (p : Profile) (sound : Sound p) (long : length (p .«extensions_order») ≡ 16) {at : ℕ} (e : at ≡ 32 + sessionLength (profileOf p)) where
   abbrev n : ℕ
   n = p .«extension_count»
 
@@ -61,10 +62,10 @@ module _ (p : Profile) (sound : Sound p) (long : length (p .«extensions_order»
   within = omega (arith, sound .extensions)
 
   first-length : length (take (n - 0) firstPlaces) ≡ n
-  first-length = ap length (first-places n (omega (arith, sound .extensions))) ∙ length-upto 0 n
+  first-length = ap length (first-places n (sound .extensions)) ∙ length-upto 0 n
 
   order-ends : at + cond shuffled (8 * (length (take (n - 0) firstPlaces) - 1)) 0 ≡ afterOrder (profileOf p)
-  order-ends = rw (first-length, e, length-take-le n (p .«extensions_order») within)
+  order-ends = rw (first-length, e, length-firsts typeNumber (p .«extensions_order») n within)
 
   -- what `put_in_order` asks for
   pub order-room : {t : ℕ} → afterOrder (profileOf p) ≤ t
@@ -77,7 +78,7 @@ module _ (p : Profile) (sound : Sound p) (long : length (p .«extensions_order»
       (q : last ≡ cond (p .«randomize_extensions_order») (shuffle 0 (take (p .«extension_count» - 0) firstPlaces) tape at) (take (p .«extension_count» - 0) firstPlaces))
       (rest : List ℕ) where
     is : last ≡ places shuffled n tape at
-    is = q ∙ rw (first-places n (omega (arith, sound .extensions)))
+    is = q ∙ rw (first-places n (sound .extensions))
 
     count : length last ≡ n
     count = ap length is ∙ length-places shuffled n tape at
@@ -91,7 +92,10 @@ module _ (p : Profile) (sound : Sound p) (long : length (p .«extensions_order»
     ordered f =
         let part : take (n - 0) (last ++ rest) ≡ places shuffled n tape at = take-at last rest (n - 0) (omega (arith, count)) ∙ is in
         record {
-          types = rw part (places-types shuffled n (p .«extensions_order») tape at within ∙ rw e);
+          types =
+              rw part
+              (places-types shuffled n (map typeNumber (p .«extensions_order»)) tape at (rw (length-map (p .«extensions_order») typeNumber) within)
+              ∙ rw (e, map-take typeNumber n (p .«extensions_order»)));
           below = rw part (λ j h. omega (arith, places-below shuffled n tape at j (omega (arith, length-places shuffled n tape at)), sound .extensions));
           after = f ∙ order-ends;
         }

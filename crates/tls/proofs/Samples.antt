@@ -12,7 +12,7 @@ use Rattle.wire.specs.Vectors.{vector, words, protocols, extension}
 use Rattle.wire.specs.Sums.{total, swapped}
 use Rattle.varint.specs.Varint.{firstAbove, class, form, shortest}
 use Rattle.profiles.specs.Profile.{Profile, chromeProfile, firefoxProfile, curlProfile, forBrowser}
-use Rattle.profiles.specs.Sizes.{keyShareSize, keyDraws, parameterDraws, parameterLength, extensionExtent, sessionLength, afterOrder, helloLength, helloDrawn}
+use Rattle.profiles.specs.Sizes.{keyShareSize, keyDraws, parameterDraws, parameterLength, fixedLength, extensionExtent, sessionLength, afterOrder, helloLength, helloDrawn}
 use Rattle.profiles.specs.Test.{all}
 use Rattle.tape.specs.Tape.{randBytes, lowestFirst, nextU64, remainders, swaps, shuffle, raised, greaseId, payloadLength, greaseByte, versionInformation}
 use Rattle.tape.proofs.DrawLaws.{length-randBytes}
@@ -73,7 +73,7 @@ numbers = 4 ∷ 4 ∷ 4 ∷ 5 ∷ 5 ∷ 6 ∷ 6 ∷ 6 ∷ 6 ∷ 7 ∷ 7 ∷ 7 �
 
 pub refused-by : refusals ≡ map refused numbers
 unfolding
-    makeOf makeWith askName askRoom plain all forBrowser chromeProfile firefoxProfile curlProfile helloLength helloDrawn extensionExtent total keyShareSize keyDraws parameterDraws parameterLength firstAbove class
+    makeOf makeWith askName askRoom plain all forBrowser chromeProfile firefoxProfile curlProfile helloLength helloDrawn extensionExtent fixedLength total keyShareSize keyDraws parameterDraws parameterLength firstAbove class
 refused-by = refl
 
 -- every question's "yes" next to its "no": names of bytes 33 and 126 and of 255 bytes, connection ids of 20, tapes and outputs of just the
@@ -100,7 +100,7 @@ lengths =
 
 pub made-from : hellos ≡ map result lengths
 unfolding
-    makeOf makeWith askName askRoom plain all forBrowser chromeProfile firefoxProfile curlProfile helloLength helloDrawn extensionExtent total keyShareSize keyDraws parameterDraws parameterLength firstAbove class form shortest hello body fields block order buildExtensions buildExtension extKeyShare keyShares keyShare keyOf extQuicTp resolve resolved afterParameters sentParameters parameter parameters extEncryptedClientHello Extensions.extServerName Extensions.extAlpn Extensions.extU16List Extensions.extSupportedVersions Extensions.extPskKeModes Extensions.extDelegatedCredentials Extensions.extApplicationSettings Extensions.extRecordSizeLimit Extensions.extRenegInfo Extensions.extStatusRequest Extensions.extExtendedMasterSecret Extensions.extCompressCert vector words protocols extension digits swapped shuffle swaps remainders nextU64 lowestFirst randBytes raised greaseId payloadLength greaseByte versionInformation
+    makeOf makeWith askName askRoom plain all forBrowser chromeProfile firefoxProfile curlProfile helloLength helloDrawn extensionExtent fixedLength total keyShareSize keyDraws parameterDraws parameterLength firstAbove class form shortest hello body fields block order buildExtensions buildExtension Extensions.fixedExtension extKeyShare keyShares keyShare keyOf extQuicTp resolve resolved afterParameters sentParameters parameter parameters extEncryptedClientHello Extensions.extServerName Extensions.extAlpn Extensions.extU16List Extensions.extSupportedVersions Extensions.extPskKeModes Extensions.extDelegatedCredentials Extensions.extApplicationSettings Extensions.extRecordSizeLimit Extensions.extRenegInfo Extensions.extStatusRequest Extensions.extExtendedMasterSecret Extensions.extCompressCert vector words protocols extension digits swapped shuffle swaps remainders nextU64 lowestFirst randBytes raised greaseId payloadLength greaseByte versionInformation
 made-from = refl
 
 -- ---- A maker that does not shuffle, and one that draws for the extensions in profile order and sends them in the order drawn
@@ -117,7 +117,7 @@ tape =
 -- A maker that does not shuffle has server_name there.
 pub config-id-drawn-first : take 10 ((block chromeProfile host [] tape) .bytes) ≡ 0xfe ∷ 0x0d ∷ 0x00 ∷ 0xc0 ∷ 0x00 ∷ 0x00 ∷ 0x01 ∷ 0x00 ∷ 0x01 ∷ 0x07 ∷ []
 unfolding
-    tape flatten chromeProfile block order shuffle swaps remainders swapped nextU64 lowestFirst randBytes buildExtensions buildExtension extEncryptedClientHello extension vector digits payloadLength
+    tape flatten chromeProfile block order shuffle swaps remainders swapped nextU64 lowestFirst randBytes buildExtensions buildExtension Extensions.fixedExtension extEncryptedClientHello extension vector digits payloadLength
 config-id-drawn-first = refl
 
 -- the block of the maker that draws in profile order
@@ -128,7 +128,7 @@ inProfileOrder =
 -- key_share, which is before ECH in the profile, has the byte 7 in its key
 pub config-id-drawn-late : take 10 inProfileOrder ≡ 0xfe ∷ 0x0d ∷ 0x00 ∷ 0xc0 ∷ 0x00 ∷ 0x00 ∷ 0x01 ∷ 0x00 ∷ 0x01 ∷ 0x00 ∷ []
 unfolding
-    inProfileOrder tape flatten pieces chromeProfile shuffle swaps remainders swapped nextU64 lowestFirst randBytes buildExtension extKeyShare keyShares keyShare keyOf keyShareSize keyDraws extQuicTp afterParameters parameterDraws extEncryptedClientHello extension vector digits payloadLength
+    inProfileOrder tape flatten pieces chromeProfile shuffle swaps remainders swapped nextU64 lowestFirst randBytes buildExtension Extensions.fixedExtension extKeyShare keyShares keyShare keyOf keyShareSize keyDraws extQuicTp afterParameters parameterDraws extEncryptedClientHello extension vector digits payloadLength
 config-id-drawn-late = refl
 
 -- ---- A maker that ignores its tape

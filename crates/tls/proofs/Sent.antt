@@ -16,10 +16,10 @@ use Rattle.wire.proofs.NumberLaws.{above, length-digits, number-digits}
 use Rattle.wire.proofs.SumLaws.{and-left, and-right}
 use Rattle.profiles.specs.Profile.{Profile}
 use Rattle.profiles.specs.Sizes.{sessionLength, afterOrder}
-use Rattle.profiles.specs.Test.{all, counted, wordList, sent, passes}
+use Rattle.profiles.specs.Test.{all, counted, wordList, known, passes}
 use Rattle.profiles.proofs.TestLaws.{passed}
 use Rattle.tape.specs.Tape.{shuffle}
-use Rattle.tape.specs.Part.{Part, undrawn}
+use Rattle.tape.specs.Part.{Part}
 use Rattle.tape.proofs.ShuffleLaws.{shuffle-permutes}
 use Rattle.tls_extensions.specs.Extensions
 use Rattle.tls_parameters.specs.Parameters.{extQuicTp}
@@ -76,54 +76,42 @@ by-type t k x y here other = go (eqb t k) refl
     go true e = rw (eqb-true t k e) (here e)
     go false e = other e
 
--- the two that are written only where the profile says so
-settings-shaped : (b : Bool) → b ≡ true → Shaped 0x44cd (cond b Extensions.extApplicationSettings [])
-unfolding Extensions.extApplicationSettings
-settings-shaped true e = shaped 0x44cd _
-settings-shaped false e = absurd (false≢true e)
+by-bytes : (t k : ℕ) (x y : List ℕ) → (eqb t k ≡ true → Shaped k x) → (eqb t k ≡ false → Shaped t y) → Shaped t (cond (eqb t k) x y)
+by-bytes t k x y here other = go (eqb t k) refl
+  where
+    go : (b : Bool) → eqb t k ≡ b → Shaped t (cond b x y)
+    go true e = rw (eqb-true t k e) (here e)
+    go false e = other e
 
-ech-shaped : (b : Bool) (tape : List ℕ) (at : ℕ) → b ≡ true
-    → Shaped 0xfe0d ((cond b (Extensions.extEncryptedClientHello tape at) (undrawn [] at)) .bytes)
-unfolding Extensions.extEncryptedClientHello
-ech-shaped true tape at e = shaped 0xfe0d _
-ech-shaped false tape at e = absurd (false≢true e)
-
-settings-sent : (p : Profile) (t : ℕ) → sent p t ≡ true → eqb t 0x44cd ≡ true → p .includeUnknown17613 ≡ true
-unfolding sent
-settings-sent p t h e = rw e at h
-
-ech-sent : (p : Profile) (t : ℕ) → sent p t ≡ true → eqb t 0x44cd ≡ false → eqb t 0xfe0d ≡ true → p .enableEch ≡ true
-unfolding sent
-ech-sent p t h e f = rw (e, f) at h
-
--- each extension of a type that is sent
-pub sent-shaped : (p : Profile) (name scid tape : List ℕ) (t at : ℕ) → sent p t ≡ true
+-- each extension of a type that is known
+pub sent-shaped : (p : Profile) (name scid tape : List ℕ) (t at : ℕ) → known t ≡ true
     → Shaped t ((buildExtension p name scid tape t at) .bytes)
 unfolding
     buildExtension Extensions.extServerName Extensions.extAlpn Extensions.extU16List Extensions.extSupportedVersions Extensions.extPskKeModes
     Extensions.extKeyShare extQuicTp Extensions.extCompressCert Extensions.extRecordSizeLimit Extensions.extRenegInfo
-    Extensions.extStatusRequest Extensions.extExtendedMasterSecret Extensions.extDelegatedCredentials sent member any
+    Extensions.extStatusRequest Extensions.extExtendedMasterSecret Extensions.extDelegatedCredentials Extensions.extApplicationSettings
+    Extensions.extEncryptedClientHello Extensions.fixedExtension known member any
 sent-shaped p name scid tape t at h =
     by-type t 0x0000 _ _ (λ e. shaped 0x0000 _)
     (λ e0. by-type t 0x0010 _ _ (λ e. shaped 0x0010 _)
     (λ e1. by-type t 0x000a _ _ (λ e. shaped 0x000a _)
     (λ e2. by-type t 0x000d _ _ (λ e. shaped 0x000d _)
     (λ e3. by-type t 0x002b _ _ (λ e. shaped 0x002b _)
-    (λ e4. by-type t 0x002d _ _ (λ e. shaped 0x002d _)
-    (λ e5. by-type t 0x0033 _ _ (λ e. shaped 0x0033 _)
-    (λ e6. by-type t 0x0039 _ _ (λ e. shaped 0x0039 _)
-    (λ e7. by-type t 0x001b _ _ (λ e. shaped 0x001b _)
-    (λ e8. by-type t 0x001c _ _ (λ e. shaped 0x001c _)
-    (λ e9. by-type t 0xff01 _ _ (λ e. shaped 0xff01 _)
-    (λ e10. by-type t 0x0005 _ _ (λ e. shaped 0x0005 _)
-    (λ e11. by-type t 0x0017 _ _ (λ e. shaped 0x0017 _)
-    (λ e12. by-type t 0x0022 _ _ (λ e. shaped 0x0022 _)
-    (λ e13. by-type t 0x44cd _ _ (λ e. settings-shaped (p .includeUnknown17613) (settings-sent p t h e))
-    (λ e14. by-type t 0xfe0d _ _ (λ e. ech-shaped (p .enableEch) tape at (ech-sent p t h e14 e))
+    (λ e4. by-type t 0x0033 _ _ (λ e. shaped 0x0033 _)
+    (λ e5. by-type t 0x0039 _ _ (λ e. shaped 0x0039 _)
+    (λ e6. by-type t 0x001b _ _ (λ e. shaped 0x001b _)
+    (λ e7. by-type t 0xfe0d _ _ (λ e. shaped 0xfe0d _)
+    (λ e8. by-bytes t 0x002d _ _ (λ e. shaped 0x002d _)
+    (λ e9. by-bytes t 0x001c _ _ (λ e. shaped 0x001c _)
+    (λ e10. by-bytes t 0xff01 _ _ (λ e. shaped 0xff01 _)
+    (λ e11. by-bytes t 0x0005 _ _ (λ e. shaped 0x0005 _)
+    (λ e12. by-bytes t 0x0017 _ _ (λ e. shaped 0x0017 _)
+    (λ e13. by-bytes t 0x0022 _ _ (λ e. shaped 0x0022 _)
+    (λ e14. by-bytes t 0x44cd _ _ (λ e. shaped 0x44cd _)
     (λ e15. absurd (false≢true (simp (e0, e1, e2, e3, e4, e5, e6, e7, e8, e9, e10, e11, e12, e13, e14, e15) at h))))))))))))))))))
 
 -- its type stands in front
-pub sent-type : (p : Profile) (name scid tape : List ℕ) (t at : ℕ) → sent p t ≡ true
+pub sent-type : (p : Profile) (name scid tape : List ℕ) (t at : ℕ) → known t ≡ true
     → take 2 ((buildExtension p name scid tape t at) .bytes) ≡ digits 256 2 t
 unfolding extension
 sent-type p name scid tape t at h =
@@ -161,15 +149,15 @@ two-bytes : (t : ℕ) → t < 65536 → number 256 (digits 256 2 t) ≡ t
 unfolding above
 two-bytes t h = number-digits 256 2 t (omega arith)
 
-piece-types : (p : Profile) (name scid tape ts : List ℕ) (at : ℕ) → all (sent p) ts ≡ true → all (λ v. ltb v 65536) ts ≡ true
+piece-types : (p : Profile) (name scid tape ts : List ℕ) (at : ℕ) → all known ts ≡ true → all (λ v. ltb v 65536) ts ≡ true
     → map typeOf (pieces p name scid tape ts at) ≡ ts
 unfolding pieces all
 piece-types p name scid tape [] at h k = refl
 piece-types p name scid tape (t ∷ ts) at h k =
     rw (
-      sent-type p name scid tape t at (and-left (sent p t) (all (sent p) ts) h),
+      sent-type p name scid tape t at (and-left (known t) (all known ts) h),
       two-bytes t (ltb-true t 65536 (and-left (ltb t 65536) (all (λ v. ltb v 65536) ts) k)),
-      piece-types p name scid tape ts ((buildExtension p name scid tape t at) .next) (and-right (sent p t) (all (sent p) ts) h)
+      piece-types p name scid tape ts ((buildExtension p name scid tape t at) .next) (and-right (known t) (all known ts) h)
           (and-right (ltb t 65536) (all (λ v. ltb v 65536) ts) k),
     )
 
@@ -181,5 +169,5 @@ block-types p name scid tape test =
     let types : List ℕ = p .extensionsOrder in
     let small : all (λ v. ltb v 65536) types ≡ true = and-right (counted 1 64 types) _ (and-left (wordList types) _ test) in
     let same = order-permutes p tape in
-    piece-types p name scid tape (order p tape) (afterOrder p) (all-permutes (sent p) types (order p tape) same ((passed p test) .types-sent))
+    piece-types p name scid tape (order p tape) (afterOrder p) (all-permutes known types (order p tape) same ((passed p test) .types-known))
     (all-permutes (λ v. ltb v 65536) types (order p tape) same small)

@@ -20,18 +20,11 @@ buildExtension p name scid tape t at =
     (cond (eqb t 0x000a) (undrawn (Extensions.extU16List 0x000a (p .supportedGroups)) at)
     (cond (eqb t 0x000d) (undrawn (Extensions.extU16List 0x000d (p .signatureAlgorithms)) at)
     (cond (eqb t 0x002b) (undrawn (Extensions.extSupportedVersions (p .supportedVersions)) at)
-    (cond (eqb t 0x002d) (undrawn Extensions.extPskKeModes at)
     (cond (eqb t 0x0033) (Extensions.extKeyShare (p .keyShareGroups) tape at)
     (cond (eqb t 0x0039) (extQuicTp (p .quicTp) scid tape at)
-    (cond (eqb t 0x001b) (undrawn (Extensions.extCompressCert (p .firefox)) at)
-    (cond (eqb t 0x001c) (undrawn Extensions.extRecordSizeLimit at)
-    (cond (eqb t 0xff01) (undrawn Extensions.extRenegInfo at)
-    (cond (eqb t 0x0005) (undrawn Extensions.extStatusRequest at)
-    (cond (eqb t 0x0017) (undrawn Extensions.extExtendedMasterSecret at)
-    (cond (eqb t 0x0022) (undrawn Extensions.extDelegatedCredentials at)
-    (cond (eqb t 0x44cd) (undrawn (cond (p .includeUnknown17613) Extensions.extApplicationSettings []) at)
-    (cond (eqb t 0xfe0d) (cond (p .enableEch) (Extensions.extEncryptedClientHello tape at) (undrawn [] at))
-    (undrawn [] at))))))))))))))))
+    (cond (eqb t 0x001b) (undrawn (Extensions.extCompressCert (p .firefoxCompression)) at)
+    (cond (eqb t 0xfe0d) (Extensions.extEncryptedClientHello tape at)
+    (undrawn (Extensions.fixedExtension t) at)))))))))
 
 -- the extensions in the order given, each drawing from where the last one stopped
 unfoldable pub buildExtensions : Profile → List ℕ → List ℕ → List ℕ → List ℕ → ℕ → Part

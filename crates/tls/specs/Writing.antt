@@ -1,28 +1,19 @@
 -- What the private writers of the maker ask for.
 use Prim.Native.Nat.{ℕ, _<_}
-use mathlib.Core.Bool.{Bool, cond}
-use mathlib.Core.List.{List, [], map}
+use mathlib.Core.List.{List, map}
 use lib.ListN.{length, getD}
 use Rattle.wire.specs.Answer.{Answer, result, refused}
 use Rattle.wire.specs.Vectors.{vector}
 use Rattle.profiles.specs.Profile as value
-use Rattle.profiles.specs.Code.{profileOf, Sound}
+use Rattle.profiles.specs.Code.{typeNumber, profileOf, Sound}
 use Rattle.profiles.specs.declared.Profile.{Profile}
-use Rattle.tape.specs.Part.{Part, undrawn, wrapped, Room}
-use Rattle.tls_extensions.specs.Extensions.{extApplicationSettings, extEncryptedClientHello}
+use Rattle.tape.specs.Part.{Part, wrapped, Room}
 use Rattle.tls.specs.Hello.{buildExtension, buildExtensions, block, body, hello}
 
 -- 0 where every question is answered "yes", else the number of the first "no"
 abbrev pub numberOf : {A : Type 0} → Answer A → ℕ
 numberOf (result a) = 0
 numberOf (refused n) = n
-
--- two extensions are written only where the profile says so
-abbrev pub settingsIf : Bool → List ℕ
-settingsIf included = cond included extApplicationSettings []
-
-abbrev pub echIf : Bool → List ℕ → ℕ → Part
-echIf enabled tape at = cond enabled (extEncryptedClientHello tape at) (undrawn [] at)
 
 -- the types at the places that an order lists
 unfoldable pub typesAt : List ℕ → List ℕ → List ℕ
@@ -41,10 +32,10 @@ ExtensionRoom p t name scid tape at room = PartRoom p name scid tape (buildExten
 
 -- all extensions, in the order given
 abbrev pub extensionsAt : Profile → List ℕ → List ℕ → List ℕ → List ℕ → ℕ → Part
-extensionsAt p order name scid tape at = buildExtensions (profileOf p) name scid tape (typesAt (p .«extensions_order») order) at
+extensionsAt p order name scid tape at = buildExtensions (profileOf p) name scid tape (typesAt (map typeNumber (p .«extensions_order»)) order) at
 
 pub record ExtensionsRoom (p : Profile) (order name scid tape : List ℕ) (at room : ℕ) : Type 0 where
-  pub places : (j : ℕ) → j < length order → getD order j 0 < 15
+  pub places : (j : ℕ) → j < length order → getD order j 0 < 16
   pub part : PartRoom p name scid tape (extensionsAt p order name scid tape at) room
 
 -- the block with its length before it

@@ -5,10 +5,10 @@ ghost use lib.ListN.{length};
 ghost use Rattle.wire.specs.Front.{Put};
 ghost use Rattle.profiles.specs.Code.{profileOf, Sound};
 ghost use Rattle.tape.specs.Part.{Room, Puts};
-ghost use Rattle.tls_extensions.specs.Extensions.{extAlpn, extU16List, extSupportedVersions, extKeyShare};
+ghost use Rattle.tls_extensions.specs.Extensions.{extAlpn, extU16List, extSupportedVersions, extKeyShare, fixedExtension};
 ghost use Rattle.tls_parameters.specs.Parameters.{extQuicTp};
 ghost use Rattle.tls.specs.Hello.{buildExtension};
-ghost use Rattle.tls.specs.Writing.{settingsIf, echIf, extensionsAt, ExtensionRoom, ExtensionsRoom};
+ghost use Rattle.tls.specs.Writing.{extensionsAt, ExtensionRoom, ExtensionsRoom};
 use profiles::ExtType;
 use profiles::Profile;
 use profiles::ext;
@@ -25,6 +25,7 @@ use tls_extensions::ext_record_size_limit;
 use tls_extensions::ext_reneg_info;
 use tls_extensions::ext_server_name;
 use tls_extensions::ext_status_request;
+use tls_extensions::ext_supported_groups;
 use tls_extensions::ext_supported_versions;
 use tls_extensions::ext_u16_list;
 use tls_parameters::ext_quic_tp;
@@ -49,8 +50,7 @@ fn groups(out: &mut [u8], profile: Profile) -> usize
     ensures { λ r. ⌜ Put (extU16List 10 (profileOf profile .supportedGroups)) r (now (out .entry)) (now (out .exit)) ⌝ }
 {
     let list = profile.supported_groups;
-    let n = profile.group_count;
-    ext_u16_list(out, ExtType(ext::SUPPORTED_GROUPS), &list[0..n])
+    ext_supported_groups(out, list, profile.group_count)
 }
 
 fn algorithms(out: &mut [u8], profile: Profile) -> usize
@@ -59,7 +59,7 @@ fn algorithms(out: &mut [u8], profile: Profile) -> usize
 {
     let list = profile.signature_algorithms;
     let n = profile.algorithm_count;
-    ext_u16_list(out, ExtType(ext::SIGNATURE_ALGORITHMS), &list[0..n])
+    ext_u16_list(out, ext::SIGNATURE_ALGORITHMS, &list[0..n])
 }
 
 fn versions(out: &mut [u8], profile: Profile) -> usize
@@ -76,36 +76,44 @@ fn key_shares(out: &mut [u8], profile: Profile, tape: &[u8], at: usize) -> Wrote
     ensures { λ r. ⌜ Puts (extKeyShare (profileOf profile .keyShareGroups) (now (tape .entry)) at) r (now (out .entry)) (now (out .exit)) ⌝ }
 {
     let list = profile.key_share_groups;
-    let n = profile.share_count;
-    ext_key_share(out, &list[0..n], tape, at)
+    ext_key_share(out, list, profile.share_count, tape, at)
 }
 
 fn parameters(out: &mut [u8], profile: Profile, scid: &[u8], tape: &[u8], at: usize) -> Wrote
     requires { ⌜ Sound profile × (length (now scid) < 256) × Room (extQuicTp (profileOf profile .quicTp) (now scid) (now tape) at) (length (now out)) (length (now tape)) ⌝ }
     ensures { λ r. ⌜ Puts (extQuicTp (profileOf profile .quicTp) (now (scid .entry)) (now (tape .entry)) at) r (now (out .entry)) (now (out .exit)) ⌝ }
 {
-    let entries = profiles::tables::parameters(profile.quic_tp);
+    let entries = profile.quic_tp;
     ext_quic_tp(out, entries, profile.parameter_count, scid, tape, at)
 }
 
-fn settings(out: &mut [u8], included: bool) -> usize
-    requires { ⌜ length (settingsIf included) ≤ length (now out) ⌝ }
-    ensures { λ r. ⌜ Put (settingsIf included) r (now (out .entry)) (now (out .exit)) ⌝ }
+// Extensions whose bytes are the same in every hello; nothing for another type.
+fn build_fixed(out: &mut [u8], t: ExtType) -> usize
+    requires { ⌜ length (fixedExtension (t .0)) ≤ length (now out) ⌝ }
+    ensures { λ r. ⌜ Put (fixedExtension (t .0)) r (now (out .entry)) (now (out .exit)) ⌝ }
 {
-    if included {
+    if t.is(ext::PSK_KEY_EXCHANGE_MODES) {
+        return ext_psk_ke_modes(out);
+    }
+    if t.is(ext::RECORD_SIZE_LIMIT) {
+        return ext_record_size_limit(out);
+    }
+    if t.is(ext::RENEGOTIATION_INFO) {
+        return ext_reneg_info(out);
+    }
+    if t.is(ext::STATUS_REQUEST) {
+        return ext_status_request(out);
+    }
+    if t.is(ext::EXTENDED_MASTER_SECRET) {
+        return ext_extended_master_secret(out);
+    }
+    if t.is(ext::DELEGATED_CREDENTIALS) {
+        return ext_delegated_credentials(out);
+    }
+    if t.is(ext::APPLICATION_SETTINGS) {
         return ext_application_settings(out);
     }
     0
-}
-
-fn ech(out: &mut [u8], enabled: bool, tape: &[u8], at: usize) -> Wrote
-    requires { ⌜ Room (echIf enabled (now tape) at) (length (now out)) (length (now tape)) ⌝ }
-    ensures { λ r. ⌜ Puts (echIf enabled (now (tape .entry)) at) r (now (out .entry)) (now (out .exit)) ⌝ }
-{
-    if enabled {
-        return ext_encrypted_client_hello(out, tape, at);
-    }
-    still(0, at)
 }
 
 fn build_extension(
@@ -120,26 +128,34 @@ fn build_extension(
     requires { ⌜ ExtensionRoom profile (t .0) (now name) (now scid) (now tape) at (length (now out)) ⌝ }
     ensures { λ r. ⌜ Puts (buildExtension (profileOf profile) (now (name .entry)) (now (scid .entry)) (now (tape .entry)) (t .0) at) r (now (out .entry)) (now (out .exit)) ⌝ }
 {
-    let k = t.0;
-    match k {
-        ext::SERVER_NAME => still(ext_server_name(out, name), at),
-        ext::ALPN => still(protocols(out, profile), at),
-        ext::SUPPORTED_GROUPS => still(groups(out, profile), at),
-        ext::SIGNATURE_ALGORITHMS => still(algorithms(out, profile), at),
-        ext::SUPPORTED_VERSIONS => still(versions(out, profile), at),
-        ext::PSK_KEY_EXCHANGE_MODES => still(ext_psk_ke_modes(out), at),
-        ext::KEY_SHARE => key_shares(out, profile, tape, at),
-        ext::QUIC_TRANSPORT_PARAMS => parameters(out, profile, scid, tape, at),
-        ext::COMPRESS_CERTIFICATE => still(ext_compress_cert(out, profile.firefox), at),
-        ext::RECORD_SIZE_LIMIT => still(ext_record_size_limit(out), at),
-        ext::RENEGOTIATION_INFO => still(ext_reneg_info(out), at),
-        ext::STATUS_REQUEST => still(ext_status_request(out), at),
-        ext::EXTENDED_MASTER_SECRET => still(ext_extended_master_secret(out), at),
-        ext::DELEGATED_CREDENTIALS => still(ext_delegated_credentials(out), at),
-        ext::APPLICATION_SETTINGS => still(settings(out, profile.include_unknown_17613), at),
-        ext::ENCRYPTED_CLIENT_HELLO => ech(out, profile.enable_ech, tape, at),
-        _ => still(0, at),
+    if t.is(ext::SERVER_NAME) {
+        return still(ext_server_name(out, name), at);
     }
+    if t.is(ext::ALPN) {
+        return still(protocols(out, profile), at);
+    }
+    if t.is(ext::SUPPORTED_GROUPS) {
+        return still(groups(out, profile), at);
+    }
+    if t.is(ext::SIGNATURE_ALGORITHMS) {
+        return still(algorithms(out, profile), at);
+    }
+    if t.is(ext::SUPPORTED_VERSIONS) {
+        return still(versions(out, profile), at);
+    }
+    if t.is(ext::KEY_SHARE) {
+        return key_shares(out, profile, tape, at);
+    }
+    if t.is(ext::QUIC_TRANSPORT_PARAMS) {
+        return parameters(out, profile, scid, tape, at);
+    }
+    if t.is(ext::COMPRESS_CERTIFICATE) {
+        return still(ext_compress_cert(out, profile.firefox_compression), at);
+    }
+    if t.is(ext::ENCRYPTED_CLIENT_HELLO) {
+        return ext_encrypted_client_hello(out, tape, at);
+    }
+    still(build_fixed(out, t), at)
 }
 
 // The extensions at the places of the profile's list that the order lists.
@@ -161,15 +177,7 @@ pub fn build_extensions(
     let mut i: usize = 0;
     while i < order.len() {
         let k = order[i];
-        let w = build_extension(
-            &mut out[n..],
-            ExtType(types[k]),
-            profile,
-            name,
-            scid,
-            tape,
-            t,
-        );
+        let w = build_extension(&mut out[n..], types[k], profile, name, scid, tape, t);
         n = n + w.length;
         t = w.next;
         i = i + 1;

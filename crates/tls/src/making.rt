@@ -216,7 +216,7 @@ pub fn generate_client_hello(
         return Made::Refused(4);
     }
     make_with(
-        profiles::tables::for_browser(browser as usize),
+        profiles::built_in::for_browser(browser as usize),
         name,
         scid,
         tape,

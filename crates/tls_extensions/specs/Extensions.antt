@@ -77,3 +77,14 @@ extExtendedMasterSecret = extension 0x0017 []
 -- zlib, zstd and brotli for Firefox, else brotli
 unfoldable pub extCompressCert : Bool → List ℕ
 extCompressCert firefox = extension 0x001b (vector 1 (words (cond firefox (1 ∷ 3 ∷ 2 ∷ []) (2 ∷ []))))
+
+-- extensions whose bytes are the same in every hello; nothing for another type
+unfoldable pub fixedExtension : ℕ → List ℕ
+fixedExtension t =
+    cond (eqb t 0x002d) extPskKeModes
+    (cond (eqb t 0x001c) extRecordSizeLimit
+    (cond (eqb t 0xff01) extRenegInfo
+    (cond (eqb t 0x0005) extStatusRequest
+    (cond (eqb t 0x0017) extExtendedMasterSecret
+    (cond (eqb t 0x0022) extDelegatedCredentials
+    (cond (eqb t 0x44cd) extApplicationSettings []))))))

@@ -6,18 +6,18 @@ use native.Mathlib.Decide.{ℕ-discrete}
 use native.Mathlib.Nat.{not-suc-le-zero, le-of-suc-le-suc}
 use native.Mathlib.Numerals.{add-one}
 use native.Mathlib.Omega.{arith}
-use lib.ListN.{length, take, drop, set, getD, length-set, List·getD-map, drop-of-length-le, length-map}
-use lib.Seq.{drop-cons, getD-take, getD-set-same, getD-set-other, length-take-le, take-length}
+use lib.ListN.{length, take, drop, set, getD, length-set, drop-of-length-le}
+use lib.Seq.{drop-cons, getD-set-same, getD-set-other, take-length}
 use Rattle.wire.specs.Front.{Put}
-use Rattle.wire.proofs.ListLaws.{getD-any-default}
+use Rattle.wire.proofs.ListLaws.{getD-any-default, length-firsts, firsts-at}
 use Rattle.wire.proofs.Writing.{Writing, lentFrom, backFrom, rest-is, next-room, writes, finished}
 use Rattle.profiles.specs.Profile.{Parameter, grease}
 use Rattle.profiles.specs.Sizes.{parameterDraws}
-use Rattle.profiles.specs.Code.{parameterOf}
-use Rattle.profiles.specs.declared.TpEntry.{TpEntry}
+use Rattle.profiles.specs.Code.{parameterOf, parametersIn}
+use Rattle.profiles.specs.declared.Parameter as code
 use Rattle.profiles.specs.declared.TpEntry.the-variants as entry
 use Rattle.tls_parameters.specs.Parameters.{none, resolve, resolved, afterParameters, parameters}
-use Rattle.tls_parameters.specs.Writing.{listed, resolvedBytes, PlacesOf, entryAt, picked}
+use Rattle.tls_parameters.specs.Writing.{resolvedBytes, PlacesOf, entryAt, picked}
 use Rattle.tls_parameters.proofs.LengthLaws.{after-parameters}
 
 -- ---- draws
@@ -48,30 +48,30 @@ resolved-at (p ∷ ps) scid tape at (suc j) h = resolved-at ps scid tape (at + p
 -- ---- entries
 
 -- whatever stands for a missing one
-pub entry-is : (entries : List TpEntry) (k : ℕ) (d : TpEntry) → k < length entries → parameterOf (getD entries k d) ≡ entryAt entries k
-entry-is entries k d h = ap parameterOf (getD-any-default entries k d entry.Grease h)
+pub entry-is : (entries : List code.Parameter) (k : ℕ) (d : code.Parameter) → k < length entries → parameterOf (getD entries k d) ≡ entryAt entries k
+entry-is entries k d h = ap parameterOf (getD-any-default entries k d (record { 0 = entry.Grease }) h)
 
-module _ (entries : List TpEntry) (count : ℕ) where
-  pub length-listed : count ≤ length entries → length (listed entries count) ≡ count
-  length-listed h = length-map (take count entries) parameterOf ∙ length-take-le count entries h
+module _ (entries : List code.Parameter) (count : ℕ) (within : count ≤ length entries) where
+  pub length-listed : length (parametersIn count entries) ≡ count
+  length-listed = length-firsts parameterOf entries count within
 
-  pub listed-at : (i : ℕ) → i < count → getD (listed entries count) i grease ≡ entryAt entries i
-  listed-at i h = List·getD-map parameterOf (take count entries) i entry.Grease ∙ ap parameterOf (getD-take count entries i entry.Grease h)
+  pub listed-at : (i : ℕ) → i < count → getD (parametersIn count entries) i grease ≡ entryAt entries i
+  listed-at i h = firsts-at parameterOf entries count (record { 0 = entry.Grease }) (record { 0 = entry.Grease }) i h within
 
 -- ---- `draw_places`: the places of the first i parameters are noted, and t is the place after their draws
 
 pub record Noted (ps : List Parameter) (at : ℕ) (places : List ℕ) (t i : ℕ) : Type 0 where
   pub within : i ≤ length ps
-  pub long : length places ≡ 13
+  pub long : length places ≡ 16
   pub next : t ≡ afterParameters (take i ps) at
   pub begin : (j : ℕ) → j < i → getD places j 0 ≡ afterParameters (take j ps) at
 
-pub noted-none : (ps : List Parameter) (at : ℕ) (places : List ℕ) → length places ≡ 13 → Noted ps at places at 0
+pub noted-none : (ps : List Parameter) (at : ℕ) (places : List ℕ) → length places ≡ 16 → Noted ps at places at 0
 unfolding afterParameters
 noted-none ps at places h = record { within = omega arith; long = h; next = refl; begin = λ j k. absurd (not-suc-le-zero k) }
 
 module _ {ps : List Parameter} {at : ℕ} {places : List ℕ} {t i : ℕ} (n : Noted ps at places t i) where
-  pub noted-more : i < length ps → i < 13 → {d : ℕ} → d ≡ parameterDraws (getD ps i grease) → Noted ps at (set places i t) (t + d) (i + 1)
+  pub noted-more : i < length ps → i < 16 → {d : ℕ} → d ≡ parameterDraws (getD ps i grease) → Noted ps at (set places i t) (t + d) (i + 1)
   noted-more h k e =
       record {
         within = omega arith;
@@ -95,7 +95,7 @@ module _ {ps : List Parameter} {at : ℕ} {places : List ℕ} {t i : ℕ} (n : N
 
 -- ---- `put_parameters`: those from place i of the order on are the one at i, and the others
 
-module _ (entries : List TpEntry) (places order scid tape : List ℕ) (i : ℕ) where
+module _ (entries : List code.Parameter) (places order scid tape : List ℕ) (i : ℕ) where
   -- the bytes of the one
   abbrev pub pickedBytes : List ℕ
   pickedBytes = resolvedBytes (entryAt entries (getD order i 0)) scid tape (getD places (getD order i 0) 0)

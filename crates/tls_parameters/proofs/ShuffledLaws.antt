@@ -11,7 +11,8 @@ use Rattle.wire.proofs.Writing.{lentFrom, backFrom, headed}
 use Rattle.wire.specs.Numbers.{digits}
 use Rattle.profiles.specs.Profile.{Parameter, grease}
 use Rattle.profiles.specs.Sizes.{parameterDraws}
-use Rattle.profiles.specs.declared.TpEntry.{TpEntry}
+use Rattle.profiles.specs.Code.{parametersIn}
+use Rattle.profiles.specs.declared.Parameter as code
 use Rattle.tape.specs.Tape.{shuffle, afterShuffle}
 use Rattle.tape.specs.Part.{Room}
 use Rattle.tape.proofs.ShuffleLaws.{upto, length-upto, length-shuffle, shuffle-within, places-shuffle}
@@ -19,7 +20,7 @@ use Rattle.wire.specs.Vectors.{extension}
 use Rattle.tls_extensions.proofs.LengthLaws.{length-extension}
 use Rattle.tls_extensions.proofs.HeadLaws.{length-head, extension-is}
 use Rattle.tls_parameters.specs.Parameters.{Resolved, none, resolve, resolved, afterParameters, sentParameters, parameters, extQuicTp}
-use Rattle.tls_parameters.specs.Writing.{listed, AllVarints, PlacesOf, entryAt, picked, Pickable, ParametersRoom}
+use Rattle.tls_parameters.specs.Writing.{AllVarints, PlacesOf, entryAt, picked, Pickable, ParametersRoom}
 use Rattle.tls_parameters.proofs.LengthLaws.{length-resolved}
 use Rattle.tls_parameters.proofs.OrderLaws.{after-within, resolved-at, length-listed, listed-at}
 
@@ -48,20 +49,20 @@ shuffled-front n tape at last rest e = take-at last rest (n - 0) (omega (arith, 
 pub shuffled-long : (n : ℕ) (tape : List ℕ) (at : ℕ) (last rest : List ℕ) → last ≡ shuffledPlaces n tape at → n ≤ length (last ++ rest)
 shuffled-long n tape at last rest e = omega (arith, length-append last rest, ap length e, length-shuffled n tape at)
 
-module _ (entries : List TpEntry) (count at : ℕ) (scid tape places : List ℕ) (long : count ≤ length entries)
-    (noted : PlacesOf (listed entries count) at places) where
+module _ (entries : List code.Parameter) (count at : ℕ) (scid tape places : List ℕ) (long : count ≤ length entries)
+    (noted : PlacesOf (parametersIn count entries) at places) where
   -- a place's parameter, with the draws that are noted for it
-  place-resolved : (k : ℕ) → k < count → resolve (entryAt entries k) scid tape (getD places k 0) ≡ getD (resolved (listed entries count) scid tape at) k none
+  place-resolved : (k : ℕ) → k < count → resolve (entryAt entries k) scid tape (getD places k 0) ≡ getD (resolved (parametersIn count entries) scid tape at) k none
   place-resolved k h =
-      let ps : List Parameter = listed entries count in
+      let ps : List Parameter = parametersIn count entries in
       let there : k < length ps = rw (length-listed entries count long) h in
-      rw (resolved-at ps scid tape at k there, listed-at entries count k h, noted k there)
+      rw (resolved-at ps scid tape at k there, listed-at entries count long k h, noted k there)
 
   pub picked-sent :
-      picked entries places (shuffledPlaces count tape (afterParameters (listed entries count) at)) scid tape ≡ sentParameters (listed entries count) scid tape at
+      picked entries places (shuffledPlaces count tape (afterParameters (parametersIn count entries) at)) scid tape ≡ sentParameters (parametersIn count entries) scid tape at
   unfolding picked sentParameters
   picked-sent =
-      let ps : List Parameter = listed entries count in
+      let ps : List Parameter = parametersIn count entries in
       let rs : List Resolved = resolved ps scid tape at in
       let t : ℕ = afterParameters ps at in
       let same : length rs ≡ count = length-resolved ps scid tape at ∙ length-listed entries count long in
@@ -70,12 +71,12 @@ module _ (entries : List TpEntry) (count at : ℕ) (scid tape places : List ℕ)
       ∙ rw same at (places-shuffle none rs tape t)
 
   -- what `put_parameters` asks for
-  pub parameters-room : (room : ℕ) → count ≤ 13 → AllVarints (listed entries count) → length scid < 65536
-      → afterParameters (listed entries count) at ≤ length tape
-      → length (parameters (sentParameters (listed entries count) scid tape at)) ≤ room
-      → ParametersRoom entries places (shuffledPlaces count tape (afterParameters (listed entries count) at)) scid tape room
+  pub parameters-room : (room : ℕ) → count ≤ 16 → AllVarints (parametersIn count entries) → length scid < 65536
+      → afterParameters (parametersIn count entries) at ≤ length tape
+      → length (parameters (sentParameters (parametersIn count entries) scid tape at)) ≤ room
+      → ParametersRoom entries places (shuffledPlaces count tape (afterParameters (parametersIn count entries) at)) scid tape room
   parameters-room room few ok short there fits =
-      let ps : List Parameter = listed entries count in
+      let ps : List Parameter = parametersIn count entries in
       let order : List ℕ = shuffledPlaces count tape (afterParameters ps at) in
       record {
         each = λ j h. pickable (getD order j 0) (shuffle-within count tape (afterParameters ps at) j (rw (length-shuffled count tape (afterParameters ps at)) at h));
@@ -85,8 +86,8 @@ module _ (entries : List TpEntry) (count at : ℕ) (scid tape places : List ℕ)
     where
       pickable : (k : ℕ) → k < count → Pickable entries places tape k
       pickable k h =
-          let ps : List Parameter = listed entries count in
-          let e : getD ps k grease ≡ entryAt entries k = listed-at entries count k h in
+          let ps : List Parameter = parametersIn count entries in
+          let e : getD ps k grease ≡ entryAt entries k = listed-at entries count long k h in
           let inside : k < length ps = rw (length-listed entries count long) h in
           let end : getD places k 0 + parameterDraws (getD ps k grease) ≤ length tape = omega (arith, noted k inside, after-within ps k at inside, there) in
           record { within = omega arith; varints = rw e at (ok k inside); there = rw e at end }

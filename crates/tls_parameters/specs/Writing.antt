@@ -6,13 +6,9 @@ use lib.ListN.{length, take, getD}
 use Rattle.profiles.specs.Profile.{Parameter, varint, bytes, versionInfo, scidSource, grease}
 use Rattle.profiles.specs.Sizes.{parameterDraws}
 use Rattle.profiles.specs.Code.{parameterOf}
-use Rattle.profiles.specs.declared.TpEntry.{TpEntry}
+use Rattle.profiles.specs.declared.Parameter as code
 use Rattle.profiles.specs.declared.TpEntry.the-variants as entry
 use Rattle.tls_parameters.specs.Parameters.{Resolved, resolve, afterParameters, parameter, parameters}
-
--- the parameters that the first entries of an array stand for
-abbrev pub listed : List TpEntry → ℕ → List Parameter
-listed entries count = map parameterOf (take count entries)
 
 -- a parameter's bytes, with its draws at a place
 abbrev pub resolvedBytes : Parameter → List ℕ → List ℕ → ℕ → List ℕ
@@ -34,10 +30,10 @@ abbrev pub PlacesOf : List Parameter → ℕ → List ℕ → Type 0
 PlacesOf ps at places = (j : ℕ) → j < length ps → getD places j 0 ≡ afterParameters (take j ps) at
 
 -- the parameters in the order given, each with its draws at its own place
-abbrev pub entryAt : List TpEntry → ℕ → Parameter
-entryAt entries k = parameterOf (getD entries k entry.Grease)
+abbrev pub entryAt : List code.Parameter → ℕ → Parameter
+entryAt entries k = parameterOf (getD entries k (record { 0 = entry.Grease }))
 
-unfoldable pub picked : List TpEntry → List ℕ → List ℕ → List ℕ → List ℕ → List Resolved
+unfoldable pub picked : List code.Parameter → List ℕ → List ℕ → List ℕ → List ℕ → List Resolved
 picked entries places order scid tape = map (λ k. resolve (entryAt entries k) scid tape (getD places k 0)) order
 
 pub record ParameterRoom (p : Parameter) (scid tape : List ℕ) (at room : ℕ) : Type 0 where
@@ -46,12 +42,12 @@ pub record ParameterRoom (p : Parameter) (scid tape : List ℕ) (at room : ℕ) 
   pub there : at + parameterDraws p ≤ length tape
   pub short : length scid < 65536
 
-pub record Pickable (entries : List TpEntry) (places tape : List ℕ) (k : ℕ) : Type 0 where
-  pub within : k < 13
+pub record Pickable (entries : List code.Parameter) (places tape : List ℕ) (k : ℕ) : Type 0 where
+  pub within : k < 16
   pub varints : HasVarints (entryAt entries k)
   pub there : getD places k 0 + parameterDraws (entryAt entries k) ≤ length tape
 
-pub record ParametersRoom (entries : List TpEntry) (places order scid tape : List ℕ) (room : ℕ) : Type 0 where
+pub record ParametersRoom (entries : List code.Parameter) (places order scid tape : List ℕ) (room : ℕ) : Type 0 where
   pub each : (j : ℕ) → j < length order → Pickable entries places tape (getD order j 0)
   pub fits : length (parameters (picked entries places order scid tape)) ≤ room
   pub short : length scid < 65536

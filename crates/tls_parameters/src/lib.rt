@@ -6,12 +6,12 @@ ghost use lib.ListN.{length, take};
 ghost use Rattle.wire.specs.Front.{Put};
 ghost use Rattle.varint.specs.Varint.{shortest};
 ghost use Rattle.profiles.specs.Sizes.{parameterDraws};
-ghost use Rattle.profiles.specs.Code.{tpBytes, parameterOf};
+ghost use Rattle.profiles.specs.Code.{tpBytes, parameterOf, parametersIn};
 ghost use Rattle.tape.specs.Tape.{randBytes, nextU64, greaseId, versionInformation};
 ghost use Rattle.tape.specs.Part.{Room, Puts};
 ghost use Rattle.tls_parameters.specs.Parameters.{parameter, parameters, afterParameters, extQuicTp};
-ghost use Rattle.tls_parameters.specs.Writing.{listed, resolvedBytes, AllVarints, PlacesOf, picked, ParameterRoom, ParametersRoom};
-use profiles::ExtType;
+ghost use Rattle.tls_parameters.specs.Writing.{resolvedBytes, AllVarints, PlacesOf, picked, ParameterRoom, ParametersRoom};
+use profiles::Parameter;
 use profiles::TpEntry;
 use profiles::ext;
 use tape::Wrote;
@@ -51,7 +51,7 @@ fn put_raw(out: &mut [u8], id: u64, n: usize) -> usize
     requires { ⌜ (id < 2 ^ 62) × (length (parameter id (take n tpBytes)) ≤ length (now out)) ⌝ }
     ensures { λ r. ⌜ Put (parameter id (take n tpBytes)) r (now (out .entry)) (now (out .exit)) ⌝ }
 {
-    let bytes = profiles::tables::tp_bytes();
+    let bytes = profiles::built_in::tp_bytes();
     let end = at_most_two(n);
     put_value(out, id, &bytes[0..end])
 }
@@ -79,10 +79,11 @@ fn put_grease(out: &mut [u8], tape: &[u8], at: usize) -> usize
 }
 
 // One parameter, whose draws begin at a place.
-fn put_parameter(out: &mut [u8], entry: TpEntry, scid: &[u8], tape: &[u8], at: usize) -> usize
-    requires { ⌜ ParameterRoom (parameterOf entry) (now scid) (now tape) at (length (now out)) ⌝ }
-    ensures { λ r. ⌜ Put (resolvedBytes (parameterOf entry) (now (scid .entry)) (now (tape .entry)) at) r (now (out .entry)) (now (out .exit)) ⌝ }
+fn put_parameter(out: &mut [u8], p: Parameter, scid: &[u8], tape: &[u8], at: usize) -> usize
+    requires { ⌜ ParameterRoom (parameterOf p) (now scid) (now tape) at (length (now out)) ⌝ }
+    ensures { λ r. ⌜ Put (resolvedBytes (parameterOf p) (now (scid .entry)) (now (tape .entry)) at) r (now (out .entry)) (now (out .exit)) ⌝ }
 {
+    let entry = p.0;
     match entry {
         TpEntry::Varint(id, value) => put_number(out, id, value),
         TpEntry::Bytes(id, n) => put_raw(out, id, n),
@@ -93,9 +94,10 @@ fn put_parameter(out: &mut [u8], entry: TpEntry, scid: &[u8], tape: &[u8], at: u
 }
 
 // How many bytes a parameter draws.
-fn parameter_draws(entry: TpEntry) -> usize
-    ensures { λ r. ⌜ (r ≡ parameterDraws (parameterOf entry)) × (r ≤ 14) ⌝ }
+fn parameter_draws(p: Parameter) -> usize
+    ensures { λ r. ⌜ (r ≡ parameterDraws (parameterOf p)) × (r ≤ 14) ⌝ }
 {
+    let entry = p.0;
     match entry {
         TpEntry::Varint(_, _) => 0,
         TpEntry::Bytes(_, _) => 0,
@@ -107,15 +109,15 @@ fn parameter_draws(entry: TpEntry) -> usize
 
 // Where each parameter's draws begin, and the place on the tape after all of them.
 struct Places {
-    of: [usize; 13],
+    of: [usize; 16],
     next: usize,
 }
 
-fn draw_places(entries: [TpEntry; 13], count: usize, at: usize) -> Places
-    requires { ⌜ (count ≤ 13) × (afterParameters (listed entries count) at < 2 ^ 64) ⌝ }
-    ensures { λ r. ⌜ (r .next ≡ afterParameters (listed entries count) at) × PlacesOf (listed entries count) at (r .of) ⌝ }
+fn draw_places(entries: [Parameter; 16], count: usize, at: usize) -> Places
+    requires { ⌜ (count ≤ 16) × (afterParameters (parametersIn count entries) at < 2 ^ 64) ⌝ }
+    ensures { λ r. ⌜ (r .next ≡ afterParameters (parametersIn count entries) at) × PlacesOf (parametersIn count entries) at (r .of) ⌝ }
 {
-    let mut of = [0usize; 13];
+    let mut of = [0usize; 16];
     let mut t = at;
     let mut i: usize = 0;
     while i < count {
@@ -129,8 +131,8 @@ fn draw_places(entries: [TpEntry; 13], count: usize, at: usize) -> Places
 // The parameters in the order given.
 fn put_parameters(
     out: &mut [u8],
-    entries: [TpEntry; 13],
-    places: [usize; 13],
+    entries: [Parameter; 16],
+    places: [usize; 16],
     order: &[usize],
     scid: &[u8],
     tape: &[u8],
@@ -151,21 +153,21 @@ fn put_parameters(
 // The first `count` of the entries are the profile's parameters.
 pub fn ext_quic_tp(
     out: &mut [u8],
-    entries: [TpEntry; 13],
+    entries: [Parameter; 16],
     count: usize,
     scid: &[u8],
     tape: &[u8],
     at: usize,
 ) -> Wrote
-    requires { ⌜ (count ≤ 13) × AllVarints (listed entries count) × (length (now scid) < 65536) × Room (extQuicTp (listed entries count) (now scid) (now tape) at) (length (now out)) (length (now tape)) ⌝ }
-    ensures { λ r. ⌜ Puts (extQuicTp (listed entries count) (now (scid .entry)) (now (tape .entry)) at) r (now (out .entry)) (now (out .exit)) ⌝ }
+    requires { ⌜ (count ≤ 16) × AllVarints (parametersIn count entries) × (length (now scid) < 65536) × Room (extQuicTp (parametersIn count entries) (now scid) (now tape) at) (length (now out)) (length (now tape)) ⌝ }
+    ensures { λ r. ⌜ Puts (extQuicTp (parametersIn count entries) (now (scid .entry)) (now (tape .entry)) at) r (now (out .entry)) (now (out .exit)) ⌝ }
 {
     let drawn = draw_places(entries, count, at);
     let mut order = tape::PLACES;
     let next = tape::shuffle(&mut order[0..count], tape, drawn.next);
     let places = drawn.of;
     let n = put_parameters(&mut out[4..], entries, places, &order[0..count], scid, tape);
-    tls_extensions::put_head(out, ExtType(ext::QUIC_TRANSPORT_PARAMS), n);
+    tls_extensions::put_head(out, ext::QUIC_TRANSPORT_PARAMS, n);
     Wrote {
         length: 4 + n,
         next,

@@ -4,7 +4,7 @@ use mathlib.Core.Path.{_≡_, refl, sym, ap, _∙_}
 use lib.ListN.{length, getD}
 use Rattle.profiles.specs.Profile.{grease}
 use Rattle.profiles.specs.Sizes.{parameterDraws}
-use Rattle.tls_parameters.specs.Writing.{listed}
+use Rattle.profiles.specs.Code.{parametersIn}
 use Rattle.tls_parameters.proofs.OrderLaws.{entry-is, length-listed, listed-at, Noted, noted-none, noted-more, next-within, noted-all}
 use borrow.Author.Needs.{needs}
 use native.Mathlib.Omega.{arith}
@@ -12,17 +12,17 @@ use Rattle.tls_parameters.proofs.draw_places.Statement.{statement}
 use Rattle.tls_parameters.proofs.draw_places.Tie as tie
 
 abbrev Inv-loop : tie.InvT-loop
-Inv-loop count at entries of₀ t₀ i₀ of t i = Noted (listed entries count) at of t i
+Inv-loop count at entries of₀ t₀ i₀ of t i = Noted (parametersIn count entries) at of t i
 
 abbrev μ-loop : tie.MeasureT-loop
 μ-loop count at entries of₀ t₀ i₀ of t i = count - i
 
-long : (c : tie.Start Inv-loop μ-loop) → length (listed (c .args .t1) (c .args .count)) ≡ c .args .count
+long : (c : tie.Start Inv-loop μ-loop) → length (parametersIn (c .args .count) (c .args .t1)) ≡ c .args .count
 long c = length-listed (c .args .t1) (c .args .count) (omega (arith, c .good, c .pre .0))
 
 drawn : (c : tie.After-parameter-draws Inv-loop μ-loop)
     → let args = c .before .before .before .before .args in
-    c .parameter-draws .result ≡ parameterDraws (getD (listed (args .t1) (args .count)) (c .before .before .before .loop .i) grease)
+    c .parameter-draws .result ≡ parameterDraws (getD (parametersIn (args .count) (args .t1)) (c .before .before .before .loop .i) grease)
 drawn c =
     let args = c .before .before .before .before .args in
     let good = c .before .before .before .before .good in
@@ -33,15 +33,15 @@ drawn c =
     let i = loop .i in
     let h : i < args .count = loop-test .taken in
     parameter-draws .ensures .0
-    ∙ ap parameterDraws (entry-is (args .t1) i _ (omega (arith, good, pre .0)) ∙ sym (listed-at (args .t1) (args .count) i h))
+    ∙ ap parameterDraws (entry-is (args .t1) i _ (omega (arith, good, pre .0)) ∙ sym (listed-at (args .t1) (args .count) (omega (arith, good, pre .0)) i h))
 
 more : (c : tie.After-parameter-draws Inv-loop μ-loop)
     → let args = c .before .before .before .before .args in
-    c .before .before .before .loop .i < length (listed (args .t1) (args .count))
+    c .before .before .before .loop .i < length (parametersIn (args .count) (args .t1))
 more c = rw (long (c .before .before .before .before)) (c .before .before .loop-test .taken)
 
 loop-holds : tie.Need-loop-holds Inv-loop μ-loop
-loop-holds c = noted-none (listed (c .args .t1) (c .args .count)) (c .args .at) _ refl
+loop-holds c = noted-none (parametersIn (c .args .count) (c .args .t1)) (c .args .at) _ refl
 
 add-t : tie.Need-add-t Inv-loop μ-loop
 add-t c =

@@ -10,7 +10,7 @@ use Rattle.wire.proofs.Writing.{lentFrom}
 use Rattle.profiles.specs.Profile.{Parameter}
 use Rattle.tape.proofs.ShuffleLaws.{first-places, length-upto}
 use Rattle.tls_parameters.specs.Parameters.{afterParameters, sentParameters, parameters, extQuicTp}
-use Rattle.tls_parameters.specs.Writing.{listed}
+use Rattle.profiles.specs.Code.{parametersIn}
 use Rattle.tls_parameters.proofs.OrderLaws.{length-listed}
 use Rattle.tls_parameters.proofs.ShuffledLaws.{shuffledPlaces, shuffled-front, shuffled-long, picked-sent, parameters-room, draws-there, shuffle-there, body-fits, body-small, extension-written}
 use native.Mathlib.Omega.{arith}
@@ -19,7 +19,7 @@ use Rattle.tls_parameters.proofs.ext_quic_tp.Statement.{statement}
 use Rattle.tls_parameters.proofs.ext_quic_tp.Tie as tie
 
 abbrev params : tie.Start → List Parameter
-params c = listed (c .args .entries) (c .args .count)
+params c = parametersIn (c .args .count) (c .args .entries)
 
 -- the place after their draws
 abbrev drawn : tie.Start → ℕ

@@ -29,12 +29,12 @@ pickable c = (c .before .before .before .before .before .before .pre .each) (c .
 known : (c : tie.In-loop Inv-loop μ-loop)
     → let args = c .before .before .before .before .before .before .args in
     let k = getD (now (args .order)) (c .before .loop .i) 0 in
-    parameterOf (getD (args .t2) k (entry.Varint 0 0)) ≡ entryAt (args .t2) k
+    parameterOf (getD (args .t2) k (record { 0 = entry.Varint 0 0 })) ≡ entryAt (args .t2) k
 known c =
     let args = c .before .before .before .before .before .before .args in
     let good = c .before .before .before .before .before .before .good in
     let loop = c .before .loop in
-    entry-is (args .t2) (getD (now (args .order)) (loop .i) 0) (entry.Varint 0 0) (omega (arith, good, pickable c .within))
+    entry-is (args .t2) (getD (now (args .order)) (loop .i) 0) (record { 0 = entry.Varint 0 0 }) (omega (arith, good, pickable c .within))
 
 written : (c : tie.After-put-parameter Inv-loop μ-loop)
     → let args = c .before .before .before .before .before .before .before .before .before .before .args in

@@ -1,35 +1,25 @@
--- The list is the front of an array; `ext_u16_list` writes it. Assumes nothing.
-use Prim.Native.Nat.{_≤_}
-use native.Mathlib.Nat.{sub-zero}
+-- The list is the front of an array; `ext_supported_groups` writes it. Assumes nothing.
 use native.Mathlib.Omega.{arith}
-use lib.ListN.{length}
 use borrow.Author.Needs.{needs}
-use Rattle.tls.proofs.BuildLaws.{arrays, words-room}
+use Rattle.wire.proofs.ListLaws.{length-firsts}
+use Rattle.profiles.specs.Code.{groupNumber, groupsIn}
+use Rattle.tls_extensions.proofs.LengthLaws.{length-u16-list}
+use Rattle.tls.proofs.BuildLaws.{arrays}
 use Rattle.tls.proofs.building.groups.Statement.{statement}
 use Rattle.tls.proofs.building.groups.Tie as tie
 
--- the count is within the array
-within : (c : tie.Start) → c .args .profile .«group_count» ≤ length (c .args .profile .«supported_groups»)
-within c = omega (arith, (arrays (c .args .profile) (c .good .1 .0)) .groups, c .pre .0 .groups)
-
-part-ext-u16-list-end : tie.Need-part-ext-u16-list-end
-part-ext-u16-list-end c = within (c .before .before .before .before)
-
-ext-u16-list-requires : tie.Need-ext-u16-list-requires
-ext-u16-list-requires c κs =
-    let start = c .before .before .before .before .before in
-    words-room 10 (start .args .profile .«supported_groups») (within start) (omega (arith, start .pre .0 .groups)) (start .pre .1)
-
-returns : tie.Need-returns
-returns c = rw (sub-zero (c .before .before .before .before .before .before .before .before .args .profile .«group_count»)) at (c .before .before .ext-u16-list .ensures)
+ext-supported-groups-requires : tie.Need-ext-supported-groups-requires
+ext-supported-groups-requires c κs =
+    let start = c .before .before .before in
+    let p = start .args .profile in
+    let few = start .pre .0 .groups in
+    let count = length-firsts groupNumber (p .«supported_groups») (p .«group_count») (omega (arith, (arrays p (start .good .1 .0)) .groups, few)) in
+    (few, omega (arith, start .pre .1, length-u16-list 10 (groupsIn (p .«group_count») (p .«supported_groups»)), count))
 
 pub groups-spec : {M : Type 1} → statement M
 groups-spec =
     tie.close
     (tie.spec
-    (λ c. search needs)  -- sub-ext-u16-list
-    (λ c. search needs)  -- part-ext-u16-list-start
-    part-ext-u16-list-end
-    ext-u16-list-requires
+    ext-supported-groups-requires
     (λ c. search needs)  -- same-length
-    returns)
+    (λ c. c .before .before .ext-supported-groups .ensures))  -- returns

@@ -18,9 +18,9 @@ use borrow.Author.Needs.{needs}
 use Rattle.tls.proofs.making.put_block.Statement.{statement}
 use Rattle.tls.proofs.making.put_block.Tie as tie
 
--- the profile's array of types has 15 places
-fifteen : (c : tie.Start) → length (c .args .profile .«extensions_order») ≡ 15
-fifteen c = (arrays (c .args .profile) (c .good .1 .0)) .types
+-- the profile's array of types has 16 places
+sixteen : (c : tie.Start) → length (c .args .profile .«extensions_order») ≡ 16
+sixteen c = (arrays (c .args .profile) (c .good .1 .0)) .types
 
 drawn : (c : tie.After-session-length) → 32 + (c .session-length .result) ≡ 32 + sessionLength (profileOf ((c .before .before .before .before .before .args .profile)))
 drawn c = ap (λ n. 32 + n) (c .session-length .ensures .0)
@@ -34,14 +34,14 @@ chosen c =
     let start = c .before .before .before .before .before .before .before .before in
     let args = start .args in
     let put = c .before .put-in-order .ensures in
-    ordered (args .profile) (start .pre .sound) (fifteen start) (drawn (c .before .before .before)) (now (args .tape)) (put .1) (postOf 0 (args .profile .«extension_count» - 0) firstPlaces) (put .0)
+    ordered (args .profile) (start .pre .sound) (sixteen start) (drawn (c .before .before .before)) (now (args .tape)) (put .1) (postOf 0 (args .profile .«extension_count» - 0) firstPlaces) (put .0)
 
 put-in-order-requires : tie.Need-put-in-order-requires
 put-in-order-requires c κs =
     let start = c .before .before .before .before .before .before in
     let args = start .args in
     let rises = block-rises (args .profile) (now (args .name)) (now (args .scid)) (now (args .tape)) (extensions-rise (profileOf (args .profile)) (now (args .name)) (now (args .scid)) (now (args .tape))) in
-    order-room (args .profile) (start .pre .sound) (fifteen start) (drawn (c .before)) (le-trans rises (start .pre .has .there))
+    order-room (args .profile) (start .pre .sound) (sixteen start) (drawn (c .before)) (le-trans rises (start .pre .has .there))
 
 sub-build-extensions : tie.Need-sub-build-extensions
 sub-build-extensions c =
@@ -60,7 +60,7 @@ part-build-extensions-end-2 c =
     let put-in-order = c .before .before .before .put-in-order in
     let start = c .before .before .before .before .before .before .before .before .before .before in
     let args = start .args in
-    count-within (args .profile) (start .pre .sound) (fifteen start) (drawn (c .before .before .before .before .before)) (now (args .tape)) (put-in-order .ensures .1) (postOf 0 (args .profile .«extension_count» - 0) firstPlaces)
+    count-within (args .profile) (start .pre .sound) (sixteen start) (drawn (c .before .before .before .before .before)) (now (args .tape)) (put-in-order .ensures .1) (postOf 0 (args .profile .«extension_count» - 0) firstPlaces)
 
 build-extensions-requires : tie.Need-build-extensions-requires
 build-extensions-requires c κs =

@@ -21,8 +21,8 @@ use Rattle.tls.proofs.making.put_fields.Tie as tie
 few : (c : tie.Start) → c .args .profile .«suite_count» ≤ length (c .args .profile .«cipher_suites»)
 few c = omega (arith, c .pre .0 .suites, (arrays (c .args .profile) (c .good .1 .0)) .suites)
 
-three : (c : tie.Start) → length ((profileOf (c .args .profile)) .cipherSuites) ≤ 3
-three c = omega (arith, c .pre .0 .suites, length-take-le (c .args .profile .«suite_count») (c .args .profile .«cipher_suites») (few c))
+at-most-16 : (c : tie.Start) → length ((profileOf (c .args .profile)) .cipherSuites) ≤ 16
+at-most-16 c = omega (arith, c .pre .0 .suites, length-take-le (c .args .profile .«suite_count») (c .args .profile .«cipher_suites») (few c))
 
 -- version and random stand
 random :
@@ -91,7 +91,7 @@ put-suites-requires c κs =
     let start = c .before .before .before .before .before .before .before .before .before .before .before .before .before .before .before in
     let p = start .args .profile in
     let suites = (profileOf p) .cipherSuites in
-    rw (sub-zero (p .«suite_count»)) (last-room (closing suites) (session (c .before .before .before)) (length-closing suites), omega (arith, three start))
+    rw (sub-zero (p .«suite_count»)) (last-room (closing suites) (session (c .before .before .before)) (length-closing suites), omega (arith, at-most-16 start))
 
 add-result : tie.Need-add-result
 add-result c =
@@ -100,7 +100,7 @@ add-result c =
     let start = c .before .before .before .before .before .before .before .before .before .before .before .before .before .before .before .before .before .before in
     let p = start .args .profile in
     let put = rw (sub-zero (p .«suite_count»)) at (put-suites .ensures) in
-    omega (arith, session-length .ensures .1, put .count, length-closing ((profileOf p) .cipherSuites), three start)
+    omega (arith, session-length .ensures .1, put .count, length-closing ((profileOf p) .cipherSuites), at-most-16 start)
 
 returns : tie.Need-returns
 returns c =

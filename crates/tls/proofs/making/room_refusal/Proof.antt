@@ -24,7 +24,7 @@ mul-if3 c =
     let args = c .before .before .before .before .before .args in
     let pre = c .before .before .before .before .before .pre in
     let if1 = c .before .before .before .before .if1 in
-    let product : args .profile .«scid_sources» * args .scid ≤ 13 * 20 = mul-le-mul (pre .0 .few) (if1 .left) in
+    let product : args .profile .«scid_sources» * args .scid ≤ 16 * 20 = mul-le-mul (pre .0 .few) (if1 .left) in
     omega arith
 
 add-if3-2 : tie.Need-add-if3-2
@@ -32,7 +32,7 @@ add-if3-2 c =
     let pre = c .before .before .before .before .before .pre in
     let if1 = c .before .before .before .before .if1 in
     let args = c .before .before .before .before .before .args in
-    let product : args .profile .«scid_sources» * args .scid ≤ 13 * 20 = mul-le-mul (pre .0 .few) (if1 .left) in
+    let product : args .profile .«scid_sources» * args .scid ≤ 16 * 20 = mul-le-mul (pre .0 .few) (if1 .left) in
     omega (arith, pre .0 .short, pre .1)
 
 returns-3 : tie.Need-returns-3
