@@ -1,4 +1,6 @@
 // Alike (document 01): whether two hellos are both accepted and agree in what a browser is known by.
+#![tactic(auto)]
+
 mod counts;
 mod lists;
 mod names;

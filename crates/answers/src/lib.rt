@@ -1,6 +1,8 @@
 // What a line of a script is answered, and the answer to each command of the varints, the maker, the joiner, the cutter and the
 // splitter (those of the reader are in answers_reader): a function for each, which makes the call and writes the text of what it answers.
 // Where a call hands bytes back, they are put at the front of `last`, for the piece `_` of later lines.
+#![tactic(auto)]
+
 ghost use Rattle.varint.specs.Varint.{size_of, write_of, after_write, read_of};
 ghost use Rattle.tls.specs.Make.{make_of, made_bytes, after_make};
 ghost use Rattle.frames.specs.Join.{join, placed_of, join_of, out_after, marks_after};
@@ -21,7 +23,7 @@ use tls::Made;
 use varint::{Got, Width};
 
 // Why a line is an error.
-#[derive(Drop)]
+#[derive(Clone, Copy)]
 pub enum Fault {
     NoCommand,
     Count,
@@ -34,7 +36,7 @@ pub enum Fault {
 
 // What a line is answered: so many bytes of text; the same with the count of the bytes handed back; the same with the number of a
 // refusal; or an error.
-#[derive(Drop)]
+#[derive(Clone, Copy)]
 pub enum Said {
     Answer(usize),
     Handed(usize, usize),

@@ -1,5 +1,7 @@
 // The answers to the commands of the reader, `alike` and the listings: a function for each, which makes the call and writes the text of what
 // it answers. The other commands' are in answers.
+#![tactic(auto)]
+
 ghost use Rattle.fingerprint.specs.Reader.{read};
 ghost use Rattle.fingerprint.specs.Calls.{name_or, extension_set};
 ghost use Rattle.alike.specs.Alike.{alike};

@@ -1,5 +1,7 @@
 // The commands of a script. The first word of a line says which command it is, and so which operands it has; they are read, and the
 // call that answers the command is made.
+#![tactic(auto)]
+
 ghost use Rattle.std.specs.Prelude.{length};
 ghost use Rattle.commands.specs.Bounds.{Fits};
 

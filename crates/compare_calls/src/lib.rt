@@ -1,5 +1,7 @@
 // The calls for compare/ that the C library (crustdelta_c) does not have, held against the Rust: numbers and byte slices, with C's calling
 // convention.
+#![tactic(auto)]
+
 ghost use Rattle.std.specs.Prelude.{◌≡◌};
 ghost use Rattle.wire.specs.Answer.{coded};
 ghost use Rattle.varint.specs.Varint.{size_of, read_of};

@@ -1,5 +1,7 @@
 // crustdelta [SCRIPT]: answers a bench script, from the file that its argument names or from standard input, line by line.
 // crustdelta COMMAND OPERAND..: answers the one line that the arguments are, parted by single spaces.
+#![tactic(auto)]
+
 ghost use Rattle.std.specs.Prelude.{◌≤◌, length};
 
 use libc::STDIN_FILENO;

@@ -1,6 +1,8 @@
 // The extension walk: a ClientHello and the place of its next extension, one step at a time, for tools that look at extensions one by
 // one. Each step asks question 20 alone; types that stand twice, bodies and counts are the reader's to refuse. A thin layer over the
 // reader's own functions: what it takes apart goes to `step_at` and `first_extension`, which take a plain slice.
+#![tactic(auto)]
+
 ghost use Rattle.std.specs.Prelude.{◌≡◌};
 ghost use Rattle.ext_walk.specs.Steps.{step_at, first_extension};
 

@@ -1,5 +1,7 @@
 // The reader (fingerprint.rs): a ClientHello's report, or the number of its refusal, for any bytes. Document 01, "Reading" and questions
 // 16 to 23. The head is read, the walk over the extensions checks and notes where things are, and one function builds the report.
+#![tactic(auto)]
+
 pub mod head;
 pub mod reading;
 pub mod report;
@@ -9,7 +11,7 @@ use fingerprint_lists::Span;
 use profiles::{ExtType, Group};
 
 // A name is a part of the hello, or not there.
-#[derive(Drop)]
+#[derive(Clone, Copy)]
 pub enum Sni {
     At(Span),
     Absent,
@@ -17,7 +19,7 @@ pub enum Sni {
 
 // The report: the fields of a ClientHello that a browser is known by. A list is an array with its count, and zeros past it; a name is a
 // part of the hello. The number is 0, or that of the refusal, and then all else is empty.
-#[derive(Drop)]
+#[derive(Clone, Copy)]
 pub struct Fingerprint {
     pub number: u64,
     pub legacy_session_id_len: usize,

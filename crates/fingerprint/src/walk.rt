@@ -13,7 +13,7 @@ use wire::be16;
 
 // What the walk found: the number of the refusal, or 0, how many extensions there are, for each kind of body the part of the hello that
 // holds it, empty where there is none, and how many parameter ids there are.
-#[derive(Drop)]
+#[derive(Clone, Copy)]
 pub struct Survey {
     pub number: u64,
     pub count: usize,

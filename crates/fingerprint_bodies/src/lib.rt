@@ -1,6 +1,8 @@
 // The bodies of the extensions that the reader reads, but for the transport parameters (`parse_extension` of fingerprint.rs): each is
 // handed over as a part of the hello. A question over a whole body gives the number of its refusal, 0 where the body is good: 21 where
 // it is not in its form, 23 where its list is too long. Document 01, "Reading" and questions 21 and 23.
+#![tactic(auto)]
+
 ghost use Rattle.std.specs.Prelude.{◌≡◌, ◌≤◌};
 ghost use Rattle.fingerprint_bodies.specs.Entries.{all_entries};
 ghost use Rattle.fingerprint_bodies.specs.Forms.{word_list, one_entry, server_name, some_names, protocol_names, one_share, key_shares};

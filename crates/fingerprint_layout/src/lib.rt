@@ -1,6 +1,8 @@
 // A report as bytes, in the layout of include/crustdelta.h, written straight from the hello: what the head and the walk found is all that
 // it needs, and the struct `Fingerprint` is never built. A writer writes over the front of a lent output; later bytes stay. Lists are
 // written over zeros, which stay past each list's count.
+#![tactic(auto)]
+
 mod lists; // one list of the hello
 mod numbers; // numbers as bytes
 

@@ -1,4 +1,6 @@
 // The lists of a report, read out of bodies that were found good, into arrays with counts: places past a count hold zeros.
+#![tactic(auto)]
+
 ghost use Rattle.std.specs.Prelude.{◌≡◌, map, ◌+◌, ◌≤◌, length, drop};
 ghost use Rattle.fingerprint_bodies.specs.Entries.{or_empty, all_entries};
 ghost use Rattle.fingerprint_bodies.specs.Forms.{words_in, word_list, one_name, protocol_names, one_share, group_of, key_shares};
@@ -10,31 +12,31 @@ use profiles::{ExtType, Group};
 use wire::be16;
 
 // A part of the hello: its first place, and its length.
-#[derive(Drop)]
+#[derive(Clone, Copy)]
 pub struct Span {
     pub start: usize,
     pub length: usize,
 }
 
-#[derive(Drop)]
+#[derive(Clone, Copy)]
 pub struct Words {
     pub items: [u16; 64],
     pub count: usize,
 }
 
-#[derive(Drop)]
+#[derive(Clone, Copy)]
 pub struct Groups {
     pub items: [Group; 64],
     pub count: usize,
 }
 
-#[derive(Drop)]
+#[derive(Clone, Copy)]
 pub struct Types {
     pub items: [ExtType; 64],
     pub count: usize,
 }
 
-#[derive(Drop)]
+#[derive(Clone, Copy)]
 pub struct Spans {
     pub items: [Span; 16],
     pub count: usize,

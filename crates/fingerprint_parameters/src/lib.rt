@@ -1,5 +1,7 @@
 // The body of the transport parameters (extension 0039; RFC 9000, section 18): ids, each with a length and a value. Document 01,
 // questions 21 to 23 for this body.
+#![tactic(auto)]
+
 ghost use Rattle.std.specs.Prelude.{◌≡◌, ◌≤◌, length, take};
 ghost use Rattle.std.proofs.Math.Option.{some};
 ghost use Rattle.wire.specs.Sums.{member, distinct};
@@ -12,7 +14,7 @@ use fingerprint_order::Rise;
 use varint::Got;
 
 // A parameter at the front of some bytes: its id, and the bytes that it takes.
-#[derive(Drop)]
+#[derive(Clone, Copy)]
 pub enum Parameter {
     Whole(u64, usize),
     Cut,

@@ -1,5 +1,7 @@
 // Where the reader stops: the number of a hello's refusal, and the place at which the question was answered "no". The numbers are the
 // reader's; the places are found only for a hello that is refused.
+#![tactic(auto)]
+
 mod body;
 mod fields;
 

@@ -11,7 +11,7 @@ use wire::Stop;
 pub const LIMIT: usize = 16384;
 
 // The end of the stream, or the number of the refusal.
-#[derive(Drop)]
+#[derive(Clone, Copy)]
 pub enum Joined {
     End(usize),
     Refused(u64),

@@ -1,1 +1,3 @@
 // What the maker makes, the reader reads back (proofs/ReadBack.antt). No code.
+#![tactic(auto)]
+

@@ -1,4 +1,6 @@
 // The operands of a command. The first word of a line says which command it is, and so how many operands it has, of which kind.
+#![tactic(auto)]
+
 mod bytes;
 mod files;
 pub mod kinds;

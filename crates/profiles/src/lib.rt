@@ -1,5 +1,7 @@
 // Browser profiles (profiles.rs): 0 is Chrome, 1 Firefox, 2 curl. The lists are constant tables, indexed by profile; a row that is
 // shorter than its table is filled up, and a count says where it ends. Document 01, "Profiles and maker".
+#![tactic(auto)]
+
 ghost use Rattle.std.specs.Prelude.{◌≡◌, eqb};
 
 pub mod built_in;
@@ -9,10 +11,10 @@ pub mod tables;
 
 // 0x0017 is extended_master_secret among extension types and secp256r1 among groups: two types, so that the two never pass for one
 // another. The number is taken out where it is written to the wire, and nowhere else.
-#[derive(Drop)]
+#[derive(Clone, Copy)]
 pub struct ExtType(pub u16);
 
-#[derive(Drop)]
+#[derive(Clone, Copy)]
 pub struct Group(pub u16);
 
 impl ExtType {
@@ -33,7 +35,7 @@ impl Group {
 
 // A QUIC transport parameter. A customer's profile has numbers, connection ids and GREASE; bytes and 0x11 only the built-in ones have.
 // The value of `Bytes(id, n)` is the first n bytes of the table of bytes.
-#[derive(Drop)]
+#[derive(Clone, Copy)]
 pub enum TpEntry {
     // fixed id with a number, written as a varint
     Varint(u64, u64),
@@ -48,13 +50,13 @@ pub enum TpEntry {
 }
 
 // A place of an array of parameters: an array of enums as a field would have to be proved by hand, an array of structs not.
-#[derive(Drop)]
+#[derive(Clone, Copy)]
 pub struct Parameter(pub TpEntry);
 
 // What a hello is made of. Each list is an array with its count, with room for what a customer may list (document 02, paper 10). The one
 // protocol is its name. The last three are sums over the profile: the tape that it needs, the length of its longest hello with neither
 // name nor connection id, and how often the connection id stands in it.
-#[derive(Drop)]
+#[derive(Clone, Copy)]
 pub struct Profile {
     pub cipher_suites: [u16; 16],
     pub suite_count: usize,

@@ -1,4 +1,6 @@
 // Records of a blob (`split_records` of fingerprint.rs): two bytes of length, highest first, then so many bytes. Document 01, question 27.
+#![tactic(auto)]
+
 ghost use Rattle.std.specs.Prelude.{◌≡◌};
 ghost use Rattle.records.specs.Records.{record_of, Finds};
 

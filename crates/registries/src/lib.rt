@@ -1,5 +1,7 @@
 // The names that registries give to numbers: cipher suites, groups, signature algorithms, extension types, versions and transport
 // parameters. A registry is a table of numbers, which rise, and a text that has a word for each of them.
+#![tactic(auto)]
+
 pub mod suites;
 pub mod tables;
 

@@ -1,6 +1,8 @@
 // The text of a report, of a name and of a set of types, as a script's answers show them ("Commands and answers": `report`, `name`,
 // `set`). A writer writes over the front of a lent output and gives how many bytes it wrote; a part that does not fit is left out, and
 // later bytes stay.
+#![tactic(auto)]
+
 pub mod lists; // 16-bit numbers, types, groups and ids, each a list after its label
 pub mod names; // names, and the ranges of the hello that hold them
 

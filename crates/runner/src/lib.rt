@@ -1,5 +1,7 @@
 // Runs bench scripts: takes lines from a descriptor and answers each on standard output. The work on text is in the crate `script`,
 // each command with its operands in `commands`, its answer in `answers`; here are the lines and the calls of the system.
+#![tactic(auto)]
+
 mod notes;
 
 ghost use Rattle.std.specs.Prelude.{◌≡◌, ◌≤◌, length};

@@ -5,7 +5,7 @@ ghost use Rattle.script.specs.Input.{start_of, filled_of, ended_of, next_line_of
 
 use crate::reading::find;
 
-#[derive(Drop)]
+#[derive(Clone, Copy)]
 pub struct Input {
     pub start: usize, // the chunk's bytes from start to end are still to be taken
     pub end: usize,

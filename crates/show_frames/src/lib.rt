@@ -1,5 +1,7 @@
 // The listing of frames: one line for each CRYPTO and PING frame and for each run of PADDING, with its place, its bytes and what they
 // are. Where the joiner refuses, the line at its place is marked and says why.
+#![tactic(auto)]
+
 ghost use Rattle.std.specs.Prelude.{◌+◌, ◌≤◌, ◌<◌, ◌^◌, ◌≡◌, length};
 ghost use Rattle.show_lines.specs.Lines.{row};
 ghost use Rattle.show_marks.specs.Text.{last_row, stop_from};

@@ -1,5 +1,7 @@
 // The listing of a hello: one line for each field, extension and entry, with its place, its bytes and what they are. Where the reader
 // refuses, the line at its place is marked and says why.
+#![tactic(auto)]
+
 mod words;
 
 ghost use Rattle.std.specs.Prelude.{◌≤◌, length};

@@ -13,7 +13,7 @@ use varint::Got;
 use wire::{be16, wide};
 
 // A place in the hello, what stands there, and the ends of the parts around it: the list, the body and the block that were last opened.
-#[derive(Drop)]
+#[derive(Clone, Copy)]
 pub struct Cursor {
     pub at: usize,
     pub what: usize,
@@ -23,7 +23,7 @@ pub struct Cursor {
 }
 
 // A line: where it ends, the bytes of its front, 0 where these are cut, and the length that it says.
-#[derive(Drop)]
+#[derive(Clone, Copy)]
 pub struct Line {
     pub end: usize,
     pub front: usize,

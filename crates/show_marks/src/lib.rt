@@ -1,5 +1,7 @@
 // What a line of a listing begins with: its mark where the reader's stop lies in it, its place and its bytes; and the verdict with
 // which a listing begins.
+#![tactic(auto)]
+
 ghost use Rattle.std.specs.Prelude.{◌≤◌, min, ◌≡◌, length};
 ghost use Rattle.script_writing.specs.Shown.{Written};
 ghost use Rattle.script_writing.specs.Answers.{WrittenAll};

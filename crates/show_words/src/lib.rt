@@ -1,6 +1,8 @@
 // A line of a listing: place and bytes, some words, and on the marked line the number of the refusal and its question in words. Words
 // stand in a table, and no contract says more of them than that they are a text. A word of a table is a phrase: each of its bytes
 // stands for itself, but for those that `put_piece` names.
+#![tactic(auto)]
+
 ghost use Rattle.std.specs.Prelude.{◌≤◌, ◌<◌, length};
 ghost use Rattle.show_lines.specs.Lines.{row};
 ghost use Rattle.show_marks.specs.Text.{stop_from};
@@ -32,7 +34,7 @@ pub struct Stop {
 
 // What is told of a line: by which words of the table, and what these may name: how deep the line is nested, what it and its part are
 // called, a number and the registry that names it, the bytes of its front, the length that it says, how many bytes are left, and a value.
-#[derive(Drop)]
+#[derive(Clone, Copy)]
 pub struct Told {
     pub words: usize,
     pub why: usize,

@@ -1,4 +1,6 @@
 // The tape in place of `impl RngCore` (tls.rs): the random bytes are lent, and a draw says where on the tape it begins.
+#![tactic(auto)]
+
 ghost use Rattle.std.specs.Prelude.{◌≡◌, ◌+◌, ◌%◌, ◌^◌, ◌≤◌, ◌<◌, length};
 ghost use Rattle.wire.specs.Front.{Put};
 ghost use Rattle.wire.specs.Sums.{swapped};

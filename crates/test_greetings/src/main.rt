@@ -1,6 +1,8 @@
 // Two greetings run end to end, for each two of the three profiles, with one name and with two. The first hello is sent in frames of 100
 // bytes and the second in frames of 700, each made from a tape of its own, and the buffers hold other bytes before. A line has both
 // profiles, both names, the numbers of the two reports, 0 where a hello was accepted, and whether the two are alike.
+#![tactic(auto)]
+
 ghost use Rattle.std.specs.Prelude.{◌≤◌, length};
 
 use frames::cutting::{Cut, write_frames};

@@ -1,6 +1,8 @@
 // Runs three scripts: two greetings, a copy of examples/two-greetings.script; lines and operands at the limits of the script language,
 // which are too long to be kept in a file; and the fixed sample of the original Rust's answers, without notes. compare/run --sample
 // writes replay.script, and what the Rust answered at the end of the file stdout, after the line that tells so.
+#![tactic(auto)]
+
 use libc::STDOUT_FILENO;
 
 // Writes a byte so many times, up to 4,096.

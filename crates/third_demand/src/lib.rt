@@ -1,4 +1,6 @@
 // Two greetings, end to end: each is made, its frames are joined, and what was joined is read; then the two are compared.
+#![tactic(auto)]
+
 ghost use Rattle.std.specs.Prelude.{◌≡◌};
 ghost use Rattle.third_demand.specs.Run.{handed, Went, Ran, end_or0};
 

@@ -1,5 +1,7 @@
 // The maker (`build_extension` and `generate_client_hello` of tls.rs): a ClientHello from a profile, a name, a connection id and a
 // tape of random bytes. Document 01, questions 4 to 9.
+#![tactic(auto)]
+
 pub mod building;
 pub mod making;
 

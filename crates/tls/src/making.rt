@@ -1,6 +1,6 @@
 // The whole hello.
 ghost use Rattle.std.specs.Prelude.{◌≡◌, cond, ◌++◌, [], ◌∷◌, ◌+◌, ◌-◌, ◌*◌, ◌≤◌, ◌<◌, length};
-ghost use Rattle.wire.specs.Answer.{result};
+ghost use Rattle.wire.specs.Answer.{result as answered};
 ghost use Rattle.wire.specs.Front.{front, Put};
 ghost use Rattle.wire.specs.Numbers.{digits};
 ghost use Rattle.wire.specs.Vectors.{vector, words};
@@ -20,7 +20,7 @@ use tape::Wrote;
 // legacy_version (TLS 1.2) and random.
 fn put_random(out: &mut [u8], tape: &[u8])
     requires { (34 ≤ length out.old) × (32 ≤ length tape.now) }
-    ensures* { λ r. ⌜ out.new ≡ front (digits 256 2 771 ++ rand_bytes 32 tape.now 0) out.old ⌝ }
+    ensures { out.new ≡ front (digits 256 2 771 ++ rand_bytes 32 tape.now 0) out.old }
 {
     wire::w16(out, 0x0303);
     tape::rand_bytes(&mut out[2..], tape, 0, 32);
@@ -28,14 +28,14 @@ fn put_random(out: &mut [u8], tape: &[u8])
 
 // Session ids are empty or of 32 bytes.
 fn session_length(empty: bool) -> usize
-    ensures* { λ r. ⌜ (r ≡ cond empty 0 32) × (r ≤ 32) ⌝ }
+    ensures { (result ≡ cond empty 0 32) × (result ≤ 32) }
 {
     if empty { 0 } else { 32 }
 }
 
 fn put_session(out: &mut [u8], tape: &[u8], n: usize)
     requires { (1 + n ≤ length out.old) × (32 + n ≤ length tape.now) × (n < 256) }
-    ensures* { λ r. ⌜ out.new ≡ front (vector 1 (rand_bytes n tape.now 32)) out.old ⌝ }
+    ensures { out.new ≡ front (vector 1 (rand_bytes n tape.now 32)) out.old }
 {
     wire::w8(out, n as u8);
     tape::rand_bytes(&mut out[1..], tape, 32, n);
@@ -44,7 +44,7 @@ fn put_session(out: &mut [u8], tape: &[u8], n: usize)
 // The suites with their length, and the one compression method.
 fn put_suites(out: &mut [u8], suites: &[u16]) -> usize
     requires { (4 + 2 * length suites.now ≤ length out.old) × (2 * length suites.now < 65536) }
-    ensures* { λ r. ⌜ Put (vector 2 (words suites.now) ++ vector 1 (0 ∷ [])) r out.old out.new ⌝ }
+    ensures { Put (vector 2 (words suites.now) ++ vector 1 (0 ∷ [])) result out.old out.new }
 {
     wire::w16(out, (2 * suites.len()) as u16);
     let a = 2 + wire::put_words(&mut out[2..], suites);
@@ -54,7 +54,7 @@ fn put_suites(out: &mut [u8], suites: &[u16]) -> usize
 // What stands before the extensions, after the message's head.
 fn put_fields(out: &mut [u8], profile: Profile, tape: &[u8]) -> usize
     requires { Sound profile × (length (fields (profile_of profile) tape.now) ≤ length out.old) × (32 + session_length (profile_of profile) ≤ length tape.now) }
-    ensures* { λ r. ⌜ Put (fields (profile_of profile) tape.now) r out.old out.new ⌝ }
+    ensures { Put (fields (profile_of profile) tape.now) result out.old out.new }
 {
     let s = session_length(profile.use_empty_session_id);
     let suites = profile.cipher_suites;
@@ -68,7 +68,7 @@ fn put_fields(out: &mut [u8], profile: Profile, tape: &[u8]) -> usize
 // Shuffles the order of the extensions, where the profile does; gives the place on the tape after that.
 fn put_in_order(order: &mut [usize], shuffled: bool, tape: &[u8], at: usize) -> usize
     requires { (length order.old < 65536) × (at + cond shuffled (8 * (length order.old - 1)) 0 ≤ length tape.now) }
-    ensures* { λ r. ⌜ (r ≡ at + cond shuffled (8 * (length order.old - 1)) 0) × (order.new ≡ cond shuffled (shuffle 0 order.old tape.now at) order.old) ⌝ }
+    ensures { (result ≡ at + cond shuffled (8 * (length order.old - 1)) 0) × (order.new ≡ cond shuffled (shuffle 0 order.old tape.now at) order.old) }
 {
     if shuffled {
         return tape::shuffle(order, tape, at);
@@ -79,7 +79,7 @@ fn put_in_order(order: &mut [usize], shuffled: bool, tape: &[u8], at: usize) -> 
 // The block of extensions with its length before it.
 fn put_block(out: &mut [u8], profile: Profile, name: &[u8], scid: &[u8], tape: &[u8]) -> Wrote
     requires { BlockRoom profile name.now scid.now tape.now (length out.old) }
-    ensures* { λ r. ⌜ Puts (counted_block (profile_of profile) name.now scid.now tape.now) r out.old out.new ⌝ }
+    ensures { Puts (counted_block (profile_of profile) name.now scid.now tape.now) result out.old out.new }
 {
     let mut order = tape::PLACES;
     let count = profile.extension_count;
@@ -109,7 +109,7 @@ fn put_block(out: &mut [u8], profile: Profile, name: &[u8], scid: &[u8], tape: &
 // Fields and block.
 fn put_body(out: &mut [u8], profile: Profile, name: &[u8], scid: &[u8], tape: &[u8]) -> Wrote
     requires { BodyRoom profile name.now scid.now tape.now (length out.old) }
-    ensures* { λ r. ⌜ Puts (body (profile_of profile) name.now scid.now tape.now) r out.old out.new ⌝ }
+    ensures { Puts (body (profile_of profile) name.now scid.now tape.now) result out.old out.new }
 {
     let a = put_fields(out, profile, tape);
     let w = put_block(&mut out[a..], profile, name, scid, tape);
@@ -122,7 +122,7 @@ fn put_body(out: &mut [u8], profile: Profile, name: &[u8], scid: &[u8], tape: &[
 // Message type and length, and the body.
 fn put_hello(out: &mut [u8], profile: Profile, name: &[u8], scid: &[u8], tape: &[u8]) -> Wrote
     requires { HelloRoom profile name.now scid.now tape.now (length out.old) }
-    ensures* { λ r. ⌜ Puts (hello (profile_of profile) name.now scid.now tape.now) r out.old out.new ⌝ }
+    ensures { Puts (hello (profile_of profile) name.now scid.now tape.now) result out.old out.new }
 {
     let w = put_body(&mut out[4..], profile, name, scid, tape);
     wire::w8(out, 0x01);
@@ -135,7 +135,7 @@ fn put_hello(out: &mut [u8], profile: Profile, name: &[u8], scid: &[u8], tape: &
 
 // Each byte 33 to 126? All bytes are looked at, with no early end: so the loop becomes a vector loop.
 fn is_plain(name: &[u8]) -> bool
-    ensures* { λ r. ⌜ r ≡ plain name.now ⌝ }
+    ensures { result ≡ plain name.now }
 {
     let mut plain = true;
     let mut i: usize = 0;
@@ -148,7 +148,7 @@ fn is_plain(name: &[u8]) -> bool
 
 // The name's questions: 5, 6, or 0 where both are answered "yes". What a caller needs of a name that passes is `named-bytes`.
 pub fn name_refusal(name: &[u8]) -> u64
-    ensures* { λ r. ⌜ r ≡ number_of (ask_name name.now (result (tt {0}))) ⌝ }
+    ensures { result ≡ number_of (ask_name name.now (answered (tt {0}))) }
 {
     if name.len() < 1 {
         return 5;
@@ -162,7 +162,7 @@ pub fn name_refusal(name: &[u8]) -> u64
 // The questions on connection id, tape and output, whose lengths are given: 7, 8, 9, or 0.
 fn room_refusal(profile: Profile, name: usize, scid: usize, tape: usize, room: usize) -> u64
     requires { Sound profile × (name < 256) }
-    ensures* { λ r. ⌜ r ≡ number_of (ask_room (profile_of profile) name scid tape room (result (tt {0}))) ⌝ }
+    ensures { result ≡ number_of (ask_room (profile_of profile) name scid tape room (answered (tt {0}))) }
 {
     if 20 < scid {
         return 7;
@@ -179,7 +179,7 @@ fn room_refusal(profile: Profile, name: usize, scid: usize, tape: usize, room: u
 // The hello of a profile, or a refusal.
 fn make_with(profile: Profile, name: &[u8], scid: &[u8], tape: &[u8], out: &mut [u8]) -> Made
     requires { Sound profile }
-    ensures* { λ r. ⌜ MakesWith (profile_of profile) name.now scid.now tape.now out.old r out.new ⌝ }
+    ensures { MakesWith (profile_of profile) name.now scid.now tape.now out.old result out.new }
 {
     let bad_name = name_refusal(name);
     if bad_name != 0 {
@@ -206,7 +206,7 @@ pub fn generate_client_hello(
     tape: &[u8],
     out: &mut [u8],
 ) -> Made
-    ensures* { λ r. ⌜ Makes browser name.now scid.now tape.now out.old r out.new ⌝ }
+    ensures { Makes browser name.now scid.now tape.now out.old result out.new }
 {
     if 3 <= browser {
         return Made::Refused(4);

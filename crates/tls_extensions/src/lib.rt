@@ -1,5 +1,7 @@
 // The extension writers of tls.rs, all but the transport parameters. Each fills the front of the part of the output that it is lent
 // and gives the count of its bytes; one that draws also gives the place on the tape after its last draw.
+#![tactic(auto)]
+
 ghost use Rattle.std.specs.Prelude.{◌≡◌, ◌++◌, [], ◌∷◌, ◌+◌, ◌*◌, ◌≤◌, ◌<◌, length};
 ghost use Rattle.wire.specs.Front.{front, Put};
 ghost use Rattle.wire.specs.Numbers.{digits};

@@ -1,5 +1,7 @@
 // `ext_quic_tp` of tls.rs. The parameters draw in profile order, so the places of their draws are noted first; then their order is
 // shuffled; then each is written in the new order, with the draws at its own place.
+#![tactic(auto)]
+
 ghost use Rattle.std.specs.Prelude.{◌≡◌, ◌+◌, ◌^◌, ◌≤◌, ◌<◌, length, take};
 ghost use Rattle.wire.specs.Front.{Put};
 ghost use Rattle.varint.specs.Varint.{shortest};

@@ -1,5 +1,7 @@
 // Variable-length integers of QUIC (varint.rs; RFC 9000, section 16): one, two, four or eight bytes. The two top bits of the first
 // byte say how many, the rest is the value, highest byte first. Document 01, questions 1 to 3.
+#![tactic(auto)]
+
 ghost use Rattle.std.specs.Prelude.{◌≡◌, ◌+◌, ◌^◌, ◌≤◌, ◌<◌, length, take, drop};
 ghost use Rattle.wire.specs.Numbers.{digits, number};
 ghost use Rattle.wire.specs.Front.{front, Put};

@@ -1,5 +1,7 @@
 // What more than one crate cites: 16- and 24-bit numbers in network byte order (`be16` of fingerprint.rs, `w16` and `w24` of
 // tls.rs), and bytes copied to the front of a lent output. Later bytes of an output stay.
+#![tactic(auto)]
+
 ghost use Rattle.std.specs.Prelude.{◌≡◌, [], ◌∷◌, ◌*◌, ◌≤◌, ◌<◌, length, take};
 ghost use Rattle.wire.specs.Numbers.{digits, number};
 ghost use Rattle.wire.specs.Front.{front, Put};
