@@ -10,7 +10,11 @@ import glob
 import re
 
 NAME = re.compile(r"[^\s(){}\[\];,.«»:=λ→\"`]+")
-STRING = re.compile(r'b?"(?:\\.|[^"\\])*"', re.S)
+# a comment, whose quotes are no text's, or a text
+PIECE = {
+    ".antt": re.compile(r'--[^\n]*|"(?:\\.|[^"\\])*"', re.S),
+    ".rt": re.compile(r"//[^\n]*|b?'(?:\\.|[^'\\\n])'|b?\"(?:\\.|[^\"\\])*\"", re.S),
+}
 CAMEL = re.compile(r"[a-z][a-z0-9]*[A-Z]")
 # in a crate: a lemma's name now, and the one that keeps it apart from a definition
 APART = {
@@ -31,11 +35,12 @@ def snake(name):
     return "-".join(parts)
 
 
-def outside_strings(text, change):
+def outside_texts(text, kind, change):
     out, at = [], 0
-    for quoted in STRING.finditer(text):
-        out += [change(text[at:quoted.start()]), quoted.group()]
-        at = quoted.end()
+    for piece in PIECE[kind].finditer(text):
+        is_comment = piece.group().startswith(("--", "//"))
+        out += [change(text[at:piece.start()]), change(piece.group()) if is_comment else piece.group()]
+        at = piece.end()
     return "".join(out) + change(text[at:])
 
 
@@ -43,7 +48,7 @@ def declared():
     """Every name in lower camel case that a file of specs/ or proofs/ has outside its texts and comments."""
     names = set()
     for path in glob.glob("crates/*/specs/**/*.antt", recursive=True) + glob.glob("crates/*/proofs/**/*.antt", recursive=True):
-        text = re.sub(r"--.*", "", STRING.sub('""', open(path).read()))
+        text = PIECE[".antt"].sub(" ", open(path).read())
         names.update(name for name in NAME.findall(text) if snake(name) != name)
     return names
 
@@ -59,7 +64,8 @@ def main():
         def change(piece):
             return NAME.sub(lambda m: apart.get(m.group(), names.get(m.group(), m.group())), piece)
 
-        turned = change(text) if path.endswith(".edit") else outside_strings(text, change)
+        kind = path[path.rindex("."):]
+        turned = change(text) if kind == ".edit" else outside_texts(text, kind, change)
         if turned != text:
             open(path, "w").write(turned)
 

@@ -10,13 +10,13 @@ use Rattle.script.specs.declared.reading.Piece.{Piece}
 use Rattle.script.specs.declared.reading.Piece.TheVariants as piece
 
 -- a text ends after the next `"`, any other piece before the next `+`; or at the operand's end
-unfoldable pub pieceLength : List ℕ → ℕ
-pieceLength [] = 0
-pieceLength (b ∷ s) = cond (b == quote) (suc (min (suc (distance quote s)) (length s))) (distance plus (b ∷ s))
+unfoldable pub piece_length : List ℕ → ℕ
+piece_length [] = 0
+piece_length (b ∷ s) = cond (b == quote) (suc (min (suc (distance quote s)) (length s))) (distance plus (b ∷ s))
 
 -- where the piece that begins at a place ends
-unfoldable pub pieceEnd : List ℕ → ℕ → ℕ
-pieceEnd operand from = from + pieceLength (drop from operand)
+unfoldable pub piece_end : List ℕ → ℕ → ℕ
+piece_end operand from = from + piece_length (drop from operand)
 
 -- what a piece stands for
 pub data Meaning : Type 0 where
