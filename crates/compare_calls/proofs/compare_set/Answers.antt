@@ -1,0 +1,6 @@
+-- The answer of the command `set` as one number. Assumes nothing.
+use Rattle.compare_calls.proofs.ReadingLaws.{text-coded}
+use Rattle.compare_calls.proofs.compare_set.Goals as goal
+
+pub returns-in-Answer : goal.returns-in-Answer
+returns-in-Answer c = rw c.in-Answer.is at (text-coded c.say_set.ensures)

@@ -1,0 +1,38 @@
+-- `slot` goes by the type, as `kind` does. Assumes nothing.
+use Prim.Native.Nat.{ℕ}
+use mathlib.Core.Path.{sym, ap}
+use Rattle.fingerprint_bodies.specs.Body.{Kind, kind}
+use Rattle.fingerprint.specs.Code.{slot}
+use Rattle.fingerprint.proofs.KindLaws.{kind-other}
+use Rattle.fingerprint.proofs.walk.slot.Goals as goal
+
+pub returns-in-0 : goal.returns-in-0
+unfolding kind
+returns-in-0 c = ap (λ (t : ℕ). slot (kind t)) (sym c.in-0.is)
+
+pub returns-in-10 : goal.returns-in-10
+unfolding kind
+returns-in-10 c = ap (λ (t : ℕ). slot (kind t)) (sym c.in-10.is)
+
+pub returns-in-13 : goal.returns-in-13
+unfolding kind
+returns-in-13 c = ap (λ (t : ℕ). slot (kind t)) (sym c.in-13.is)
+
+pub returns-in-16 : goal.returns-in-16
+unfolding kind
+returns-in-16 c = ap (λ (t : ℕ). slot (kind t)) (sym c.in-16.is)
+
+pub returns-in-43 : goal.returns-in-43
+unfolding kind
+returns-in-43 c = ap (λ (t : ℕ). slot (kind t)) (sym c.in-43.is)
+
+pub returns-in-51 : goal.returns-in-51
+unfolding kind
+returns-in-51 c = ap (λ (t : ℕ). slot (kind t)) (sym c.in-51.is)
+
+pub returns-in-57 : goal.returns-in-57
+unfolding kind
+returns-in-57 c = ap (λ (t : ℕ). slot (kind t)) (sym c.in-57.is)
+
+pub returns-in_default : goal.returns-in_default
+returns-in_default c = ap (λ (k : Kind). slot k) (sym (kind-other c.args.t c.in_default.in_default-own.rest.0.0.0.0.0.0.1 c.in_default.in_default-own.rest.0.0.0.0.0.1 c.in_default.in_default-own.rest.0.0.0.0.1 c.in_default.in_default-own.rest.0.0.0.1 c.in_default.in_default-own.rest.0.0.1 c.in_default.in_default-own.rest.0.1 c.in_default.in_default-own.rest.1))

@@ -1,0 +1,70 @@
+-- The loop keeps `Reading`. A store past the end of the array would change nothing, so both branches store alike. Assumes nothing.
+use mathlib.Core.Path.{◌≡◌, sym, ◌∙◌}
+use mathlib.Core.Logic.{⊎_elim}
+use Prim.Native.Nat.{◌-◌}
+use lib.ListN.{set}
+use lib.Seq.{set_out}
+use Rattle.fingerprint_parameters.proofs.ParameterLaws as laws
+use Rattle.fingerprint_parameters.proofs.ParameterLaws.{Next, ids-cut}
+use Rattle.fingerprint_parameters.proofs.ReadingLaws.{reading-start, reading-next, reading-cut, reading-end}
+use native.Mathlib.Omega.{arith}
+use Rattle.fingerprint_parameters.proofs.read_ids.Goals as goal
+use Rattle.fingerprint_parameters.proofs.read_ids.Goals.{In-Whole, Joined-k-room}
+
+next : (c : In-Whole) →
+    let args = c.args in
+    let loop = c.loop-at in
+    Next args.body.now loop.at c.in-Whole.id c.in-Whole.used
+next c =
+    let args = c.args in
+    let start = c in
+    let loop = c.loop-at in
+    let test = c.loop-at-test in
+    let call = c.one_parameter in
+    laws.next args.body.now loop.at test.true _ call.ensures (λ k. (start.type_inv.body k).fits) c.in-Whole.is
+
+stored : (c : Joined-k-room) →
+    let loop = c.loop-at in
+    c.if-k-room.ids ≡ set loop.ids loop.k c.in-Whole.id
+stored c =
+    let loop = c.loop-at in
+    ⊎_elim (λ p. p.1) (λ p. p.1 ∙ sym (set_out loop.ids loop.k c.in-Whole.id (omega (arith, p.0.left, loop.invariant.size)))) c.if-k-room.branch
+
+pub loop-at-init : goal.loop-at-init
+loop-at-init c =
+    let args = c.args in
+    reading-start args.body.now args.ids.now
+
+pub returns-in_default : goal.returns-in_default
+returns-in_default c =
+    let args = c.args in
+    let loop = c.loop-at in
+    let test = c.loop-at-test in
+    let cut = ids-cut args.body.now loop.at test.true _ c.one_parameter.ensures c.in_default.is in
+    reading-cut args.body.now args.ids.now loop.ids loop.at loop.k loop.invariant cut
+
+pub overflow_add-at : goal.overflow_add-at
+overflow_add-at c = omega (arith, (next (goal.at.overflow_add-at c).In-Whole).within)
+
+pub overflow_add-k : goal.overflow_add-k
+overflow_add-k c =
+    let loop = c.loop-at in
+    let test = c.loop-at-test in
+    omega (arith, loop.invariant.few, test.true)
+
+pub loop-at-smaller : goal.loop-at-smaller
+loop-at-smaller c =
+    let test = c.loop-at-test in
+    omega (arith, test.true, (next (goal.at.loop-at-smaller c).In-Whole).some)
+
+pub loop-at-preserved : goal.loop-at-preserved
+loop-at-preserved c =
+    let args = c.args in
+    let loop = c.loop-at in
+    rw (stored c) (reading-next args.body.now args.ids.now loop.ids loop.at loop.k loop.invariant _ _ (next (goal.at.loop-at-preserved c).In-Whole))
+
+pub returns : goal.returns
+returns c =
+    let args = c.args in
+    let loop = c.loop-at in
+    reading-end args.body.now args.ids.now loop.ids loop.at loop.k loop.invariant c.loop-at-test.false

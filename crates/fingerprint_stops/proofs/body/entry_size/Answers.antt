@@ -1,0 +1,100 @@
+-- `entry_size` goes by the place, as `kind_at` does, and each kind of entry has its own reader. Assumes nothing.
+use mathlib.Core.Path.{ap, subst}
+use native.Mathlib.Omega.{arith}
+use Rattle.fingerprint_bodies.specs.Body.{groups, algorithms, protocols, versions, shares, parameters}
+use Rattle.fingerprint_bodies.specs.Code.{NameFound, NameAs, ShareFound, ShareAs}
+use Rattle.fingerprint_bodies.specs.declared.Name.{Name}
+use Rattle.fingerprint_bodies.specs.declared.Share.{Share}
+use Rattle.fingerprint_parameters.specs.Code.{ParameterFound, ParameterAs}
+use Rattle.fingerprint_parameters.specs.declared.Parameter.{Parameter}
+use Rattle.fingerprint.specs.Code.{kind_at}
+use Rattle.fingerprint_stops.proofs.EntryLaws.{name-size, name-none, share-size, share-none, parameter-size, parameter-none, groups-size, algorithms-size, versions-size, size-at, size-other}
+use Rattle.fingerprint_stops.proofs.body.entry_size.Goals as goal
+use Rattle.fingerprint_stops.proofs.body.entry_size.Goals.{In-Whole, In-Whole-one_parameter, In-Whole-one_share}
+
+name-found : (c : In-Whole) →
+    let args = c.args in
+    NameFound args.rest.now c.in-Whole.length
+name-found c =
+    let args = c.args in
+    subst (λ (x : Name). NameAs x args.rest.now) c.in-Whole.is c.one_name.ensures
+
+share-found : (c : In-Whole-one_share) →
+    let args = c.args in
+    ShareFound args.rest.now c.in-Whole-one_share.field-0 c.in-Whole-one_share.used
+share-found c =
+    let args = c.args in
+    subst (λ (x : Share). ShareAs x args.rest.now) c.in-Whole-one_share.is c.one_share.ensures
+
+parameter-found : (c : In-Whole-one_parameter) →
+    let args = c.args in
+    ParameterFound args.rest.now c.in-Whole-one_parameter.field-0 c.in-Whole-one_parameter.used
+parameter-found c =
+    let args = c.args in
+    subst (λ (x : Parameter). ParameterAs x args.rest.now) c.in-Whole-one_parameter.is c.one_parameter.ensures
+
+pub overflow_add-result : goal.overflow_add-result
+overflow_add-result c = omega (arith, (name-found c).within)
+
+pub returns-in-1 : goal.returns-in-1
+returns-in-1 c =
+    let args = c.args in
+    size-at args.rest.now args.place c.word_size.result groups (ap kind_at c.in-1.is)
+    (groups-size args.rest.now c.word_size.result c.word_size.ensures)
+
+pub returns-in-2 : goal.returns-in-2
+returns-in-2 c =
+    let args = c.args in
+    size-at args.rest.now args.place c.word_size-in-2.result algorithms (ap kind_at c.in-2.is)
+    (algorithms-size args.rest.now c.word_size-in-2.result c.word_size-in-2.ensures)
+
+pub returns-in-Whole : goal.returns-in-Whole
+returns-in-Whole c =
+    let args = c.args in
+    size-at args.rest.now args.place _ protocols (ap kind_at c.in-3.is)
+    (name-size args.rest.now _ (name-found c))
+
+pub returns-in-Cut : goal.returns-in-Cut
+returns-in-Cut c =
+    let args = c.args in
+    let cut = subst (λ (x : Name). NameAs x args.rest.now) c.in-Cut.is c.one_name.ensures in
+    size-at args.rest.now args.place 0 protocols (ap kind_at c.in-3.is)
+    (name-none args.rest.now cut)
+
+pub returns-in-4 : goal.returns-in-4
+returns-in-4 c =
+    let args = c.args in
+    size-at args.rest.now args.place c.word_size-in-4.result versions (ap kind_at c.in-4.is)
+    (versions-size args.rest.now c.word_size-in-4.result c.word_size-in-4.ensures)
+
+pub returns-in-Whole-one_share : goal.returns-in-Whole-one_share
+returns-in-Whole-one_share c =
+    let args = c.args in
+    size-at args.rest.now args.place _ shares (ap kind_at c.in-5.is)
+    (share-size args.rest.now _ _ (share-found c))
+
+pub returns-in-Cut-one_share : goal.returns-in-Cut-one_share
+returns-in-Cut-one_share c =
+    let args = c.args in
+    let cut = subst (λ (x : Share). ShareAs x args.rest.now) c.in-Cut-one_share.is c.one_share.ensures in
+    size-at args.rest.now args.place 0 shares (ap kind_at c.in-5.is)
+    (share-none args.rest.now cut)
+
+pub returns-in-Whole-one_parameter : goal.returns-in-Whole-one_parameter
+returns-in-Whole-one_parameter c =
+    let args = c.args in
+    size-at args.rest.now args.place _ parameters (ap kind_at c.in-6.is)
+    (parameter-size args.rest.now _ _ (parameter-found c))
+
+pub returns-in-Cut-one_parameter : goal.returns-in-Cut-one_parameter
+returns-in-Cut-one_parameter c =
+    let args = c.args in
+    let cut = subst (λ (x : Parameter). ParameterAs x args.rest.now) c.in-Cut-one_parameter.is c.one_parameter.ensures in
+    size-at args.rest.now args.place 0 parameters (ap kind_at c.in-6.is)
+    (parameter-none args.rest.now cut)
+
+pub returns-in_default : goal.returns-in_default
+returns-in_default c =
+    let args = c.args in
+    let o = c.in_default.in_default-own.rest in
+    size-other args.rest.now args.place o.0.0.0.0.0.1 o.0.0.0.0.1 o.0.0.0.1 o.0.0.1 o.0.1 o.1

@@ -1,0 +1,14 @@
+-- The loop keeps: what the definition passes over from the start is the place and what it passes over from there. Assumes nothing.
+use mathlib.Core.Path.{◌≡◌}
+use Prim.Native.Nat.{◌+◌, ◌-◌, ◌≤◌}
+use lib.ListN.{length, drop}
+use Rattle.fingerprint.specs.Code.{kind_at}
+use Rattle.fingerprint_stops.specs.Stops.{passed}
+use Rattle.fingerprint_stops.proofs.body.passed_over.Given as goal
+
+abbrev pub invariant-loop-k : goal.invariant-loop-k
+invariant-loop-k l =
+    (l.k ≤ l.n) × (l.at ≤ length l.list) × (passed (kind_at l.place) l.n l.list ≡ l.at + passed (kind_at l.place) (l.n - l.k) (drop l.at l.list))
+
+abbrev pub decreases-loop-k : goal.decreases-loop-k
+decreases-loop-k l = l.n - l.k

@@ -1,0 +1,65 @@
+-- `repeated_at` keeps `Repeating` from one parameter to the next. Assumes nothing.
+use mathlib.Core.Path.{sym, ◌∙◌}
+use Prim.Native.Nat.{◌-◌}
+use native.Mathlib.Omega.{arith}
+use lib.ListN.{drop}
+use Rattle.wire.proofs.ListLaws.{part_to_end}
+use Rattle.fingerprint_parameters.specs.Code.{ParameterFound, ParameterAs}
+use Rattle.fingerprint_stops.proofs.RepeatLaws.{repeating-start, repeating-end, repeating-cut, repeating-here, repeating-next, next-inside}
+use Rattle.fingerprint_stops.proofs.body.repeated_at.Goals as goal
+use Rattle.fingerprint_stops.proofs.body.repeated_at.Goals.{After-one_parameter, In-Whole}
+
+inner : (c : After-one_parameter) →
+    let args = c.args in
+    ParameterAs c.one_parameter.result (drop c.loop-at.at args.body.now)
+inner c =
+    let args = c.args in
+    rw (part_to_end args.body.now c.loop-at.at) at c.one_parameter.ensures
+
+found : (c : In-Whole) →
+    let args = c.args in
+    let loop = c.loop-at in
+    ParameterFound (drop loop.at args.body.now) c.in-Whole.id c.in-Whole.used
+found c = rw c.in-Whole.is at (inner c.before.before.before)
+
+pub loop-at-init : goal.loop-at-init
+loop-at-init c = repeating-start c.args.body.now
+
+pub returns-in_default : goal.returns-in_default
+returns-in_default c =
+    let loop = c.loop-at in
+    let test = c.loop-at-test in
+    (repeating-cut loop.invariant test.true (rw c.in_default.is at (inner (goal.at.returns-in_default c).After-one_parameter)), loop.invariant.inside)
+
+pub returns-then-among_first : goal.returns-then-among_first
+returns-then-among_first c =
+    let loop = c.loop-at in
+    let test = c.loop-at-test in
+    (repeating-here loop.invariant test.true (found (goal.at.returns-then-among_first c).In-Whole) (sym c.among_first.ensures ∙ c.if-among_first.true), loop.invariant.inside)
+
+pub overflow_add-at : goal.overflow_add-at
+overflow_add-at c =
+    let loop = c.loop-at in
+    let test = c.loop-at-test in
+    omega (arith, next-inside loop.invariant test.true (found (goal.at.overflow_add-at c).In-Whole))
+
+pub overflow_add-k : goal.overflow_add-k
+overflow_add-k c =
+    let loop = c.loop-at in
+    omega (arith, loop.invariant.few, loop.invariant.inside)
+
+pub loop-at-smaller : goal.loop-at-smaller
+loop-at-smaller c =
+    let test = c.loop-at-test in
+    omega (arith, test.true, (found (goal.at.loop-at-smaller c).In-Whole).some)
+
+pub loop-at-preserved : goal.loop-at-preserved
+loop-at-preserved c =
+    let loop = c.loop-at in
+    let test = c.loop-at-test in
+    repeating-next loop.invariant test.true (found (goal.at.loop-at-preserved c).In-Whole) (sym c.among_first.ensures ∙ c.if-among_first.false)
+
+pub returns : goal.returns
+returns c =
+    let loop = c.loop-at in
+    (repeating-end loop.invariant c.loop-at-test.false, loop.invariant.inside)

@@ -1,0 +1,169 @@
+-- The loop keeps `Laying`: the pieces placed and the frames still to be read give what all frames give. Assumes nothing.
+use Prim.Native.Nat.{ℕ, ◌+◌, ◌-◌, ◌≤◌}
+use mathlib.Core.Path.{sym, ◌∙◌}
+use lib.ListN.{length, drop, length-drop}
+use Rattle.wire.proofs.ListLaws.{part_to_end}
+use Rattle.frames.specs.declared.joining.Step.TheVariants as step
+use Rattle.frames.specs.Buffers.{Stepping, Padding}
+use Rattle.frames.proofs.JoinLaws.{Laying, starts, goes_on, stops, ends-whole, ends-gap}
+use Rattle.frames.proofs.PaddingLaws.{passes_over}
+use native.Mathlib.Omega.{arith}
+use Rattle.frames.proofs.joining.join_all.Goals as goal
+use Rattle.frames.proofs.joining.join_all.Goals.{After-padding-at, In-Next}
+
+stepped : (c : In-Next) →
+    let args = c.args in
+    let loop = c.loop-at in
+    let join-frame = c.join_frame in
+    Stepping (drop loop.at args.frames.now) loop.out loop.marks loop.end (step.Next c.in-Next.used c.in-Next.e) join-frame.new.out join-frame.new.marks
+stepped c =
+    let args = c.args in
+    let loop = c.loop-at in
+    let join-frame = c.join_frame in
+    rw (part_to_end args.frames.now loop.at, c.in-Next.is) at join-frame.ensures
+
+-- the frame's bytes, and where the loop stands after it
+abbrev used : (c : In-Next) → ℕ
+used c = c.in-Next.used
+
+gone : (c : In-Next) →
+    let args = c.args in
+    let loop = c.loop-at in
+    let join-frame = c.join_frame in
+    Laying args.frames.now args.out.now args.marks.now join-frame.new.out join-frame.new.marks (loop.at + used c) c.in-Next.e
+gone c =
+    let loop = c.loop-at in
+    let loop-test = c.loop-at-test in
+    let join-frame = c.join_frame in
+    goes_on loop.invariant loop-test.true (stepped c) join-frame.auto.1.0 join-frame.auto.1.1.0
+
+within : (c : In-Next) →
+    let args = c.args in
+    let loop = c.loop-at in
+    (1 ≤ used c) × (loop.at + used c ≤ length args.frames.now)
+within c =
+    let args = c.args in
+    let loop = c.loop-at in
+    ((stepped c).bounds.0, omega (arith, (stepped c).bounds, length-drop loop.at args.frames.now, c.loop-at-test.true))
+
+-- the PADDING after it
+passed : (c : After-padding-at) →
+    let frame = c.before.before.before in
+    let args = frame.args in
+    let loop = frame.loop-at in
+    Padding c.padding-at.result (drop (loop.at + used frame) args.frames.now)
+passed c =
+    let frame = c.before.before.before in
+    let args = frame.args in
+    let loop = frame.loop-at in
+    rw (part_to_end args.frames.now (loop.at + used frame)) at c.padding-at.ensures
+
+pub loop-at-init : goal.loop-at-init
+loop-at-init c =
+    let start = c in
+    starts start.args.frames.now start.args.out.now start.args.marks.now start.requires.2 start.requires.3
+
+pub join_frame-requires : goal.join_frame-requires
+join_frame-requires c =
+    let pre = c.requires in
+    let loop = c.loop-at in
+    (omega (arith, loop.invariant.long, pre.0), omega (arith, loop.invariant.wide, pre.1), loop.invariant.ends)
+
+pub enum_known-used : goal.enum_known-used
+enum_known-used c = omega (arith, c.in-Next.in-Next-own.keys1)
+
+pub overflow_add-at : goal.overflow_add-at
+overflow_add-at c =
+    let args = c.args in
+    let loop = c.loop-at in
+    omega (arith, (stepped c).bounds, length-drop loop.at args.frames.now)
+
+pub slice_bounds-padding-count : goal.slice_bounds-padding-count
+slice_bounds-padding-count c = omega (arith, within (goal.at.slice_bounds-padding-count c).In-Next)
+
+pub slice_bounds-padding-start : goal.slice_bounds-padding-start
+slice_bounds-padding-start c = omega (arith, within (goal.at.slice_bounds-padding-start c).In-Next)
+
+pub slice_bounds-padding-end : goal.slice_bounds-padding-end
+slice_bounds-padding-end c = omega (arith, within (goal.at.slice_bounds-padding-end c).In-Next)
+
+pub overflow_add-at-then-used-eq1 : goal.overflow_add-at-then-used-eq1
+overflow_add-at-then-used-eq1 c =
+    let frame = (goal.at.overflow_add-at-then-used-eq1 c).In-Next in
+    let args = frame.args in
+    let loop = frame.loop-at in
+    omega (arith, within frame, (passed c).within, length-drop (loop.at + used frame) args.frames.now, frame.well_formed)
+
+pub loop-at-smaller-then-used-eq1 : goal.loop-at-smaller-then-used-eq1
+loop-at-smaller-then-used-eq1 c =
+    let frame = (goal.at.loop-at-smaller-then-used-eq1 c).In-Next in
+    let args = frame.args in
+    let loop = frame.loop-at in
+    omega (arith, within frame, (passed c).within, length-drop (loop.at + used frame) args.frames.now)
+
+pub loop-at-preserved-then-used-eq1 : goal.loop-at-preserved-then-used-eq1
+loop-at-preserved-then-used-eq1 c = passes_over (gone (goal.at.loop-at-preserved-then-used-eq1 c).In-Next) (passed c)
+
+pub loop-at-smaller : goal.loop-at-smaller
+loop-at-smaller c = omega (arith, within (goal.at.loop-at-smaller c).In-Next)
+
+pub loop-at-preserved : goal.loop-at-preserved
+loop-at-preserved c = gone (goal.at.loop-at-preserved c).In-Next
+
+pub enum_known-n : goal.enum_known-n
+enum_known-n c = omega (arith, c.in-Refused.in-Refused-own.keys2)
+
+pub shape_of-out-in-Refused : goal.shape_of-out-in-Refused
+shape_of-out-in-Refused c =
+    let loop = c.loop-at in
+    let join-frame = c.join_frame in
+    join-frame.auto.1.0 ∙ loop.invariant.long
+
+pub shape_of-marks-in-Refused : goal.shape_of-marks-in-Refused
+shape_of-marks-in-Refused c =
+    let loop = c.loop-at in
+    let join-frame = c.join_frame in
+    join-frame.auto.1.1.0 ∙ loop.invariant.wide
+
+pub returns-in-Refused : goal.returns-in-Refused
+returns-in-Refused c =
+    let args = c.args in
+    let loop = c.loop-at in
+    let loop-test = c.loop-at-test in
+    let join-frame = c.join_frame in
+    let s = rw (part_to_end args.frames.now loop.at, c.in-Refused.is) at join-frame.ensures in
+    stops loop.invariant loop-test.true s
+
+pub shape_of-out-then-all_marked : goal.shape_of-out-then-all_marked
+shape_of-out-then-all_marked c =
+    let loop = c.loop-at in
+    loop.invariant.long
+
+pub shape_of-marks-then-all_marked : goal.shape_of-marks-then-all_marked
+shape_of-marks-then-all_marked c =
+    let loop = c.loop-at in
+    loop.invariant.wide
+
+pub returns-then-all_marked : goal.returns-then-all_marked
+returns-then-all_marked c =
+    let pre = c.requires in
+    let loop = c.loop-at in
+    let loop-test = c.loop-at-test in
+    ends-whole loop.invariant loop-test.false pre.0 pre.1 (sym c.all_marked.ensures ∙ c.if-all_marked.true)
+
+pub shape_of-out-else-all_marked : goal.shape_of-out-else-all_marked
+shape_of-out-else-all_marked c =
+    let loop = c.loop-at in
+    loop.invariant.long
+
+pub shape_of-marks-else-all_marked : goal.shape_of-marks-else-all_marked
+shape_of-marks-else-all_marked c =
+    let loop = c.loop-at in
+    loop.invariant.wide
+
+pub returns-else-all_marked : goal.returns-else-all_marked
+returns-else-all_marked c =
+    let pre = c.requires in
+    let loop = c.loop-at in
+    let loop-test = c.loop-at-test in
+    ends-gap loop.invariant loop-test.false pre.0 pre.1 (sym c.all_marked.ensures ∙ c.if-all_marked.false)

@@ -1,0 +1,46 @@
+-- `reports::names::put_protocols` meets its contract: the label and the names before place i stand in the output. Assumes nothing.
+use Prim.Native.Nat.{ℕ, ◌-◌, ◌<◌}
+use mathlib.Core.Path.{refl}
+use mathlib.Core.List.{List}
+use lib.ListN.{length, take}
+use Rattle.fingerprint_lists.specs.declared.Span.{Span}
+use Rattle.fingerprint_lists.specs.Arrays.{span}
+use Rattle.reports.specs.Lines.{each, alpn_label}
+use Rattle.reports.specs.Code.{span_parts}
+use Rattle.reports.proofs.PartLaws.{list-start, list-next, list-end, each_next}
+use borrow.Author.Rules.{rules}
+use native.Mathlib.Omega.{arith}
+use Rattle.reports.proofs.names.put_protocols.Goals as goal
+
+abbrev parts : List ℕ → List Span → ℕ → List (List ℕ)
+parts h spans i = each (span_parts h) (take i spans)
+
+pub loop-i-init : goal.loop-i-init
+unfolding each
+loop-i-init c =
+    let args = c.args in
+    let text = c.put_text-at in
+    list-start alpn_label (parts args.hello.now args.t3) args.count text.result text.new.out refl (search rules)
+
+pub bounds-spans-i : goal.bounds-spans-i
+bounds-spans-i c = omega (arith, c.requires.0.long, c.requires.0.few)
+
+pub put_range-at-requires : goal.put_range-at-requires
+put_range-at-requires c = c.requires.1 c.loop-i.i c.loop-i-test.true
+
+pub loop-i-preserved : goal.loop-i-preserved
+loop-i-preserved c =
+    let args = c.args in
+    let text = c.put_text-at in
+    let l = c.loop-i in
+    let range = c.put_range-at in
+    let inside : l.i < length args.t3 = omega (arith, c.requires.0.long, c.requires.0.few) in
+    list-next alpn_label (parts args.hello.now args.t3) args.count text.result text.new.out l.at l.i l.out l.invariant range.result _ range.new.out
+    c.loop-i-test.true (each_next args.t3 l.i (span 0 0) inside (span_parts args.hello.now)) range.auto.0 range.ensures
+
+pub returns : goal.returns
+returns c =
+    let args = c.args in
+    let text = c.put_text-at in
+    let l = c.loop-i in
+    list-end alpn_label (parts args.hello.now args.t3) args.count text.result text.new.out l.at l.i l.out l.invariant args.out.now c.loop-i-test.false text.ensures

@@ -1,0 +1,29 @@
+-- `script::reading::read_run` meets its contract: what `read_number` says of the part before the star picks the case. Assumes nothing.
+use Rattle.std.proofs.Common.{ℕ, ◌+◌, ◌-◌, List, length, take, drop, sym, ap, ◌∙◌, arith, length-take-le}
+use Rattle.wire.proofs.ListLaws.{part_to_end}
+use Rattle.script.specs.Piece.{times_of, run_of}
+use Rattle.script.proofs.PieceLaws.{run_is, run-other, read_as, read-malformed}
+use Rattle.script.proofs.reading.read_run.Goals as goal
+
+pub slice_bounds-read_number-end : goal.slice_bounds-read_number-end
+slice_bounds-read_number-end c =
+    let start = c in
+    sym (length-take-le start.args.star start.args.text.now (omega (arith, start.requires)))
+
+pub returns-in-Value : goal.returns-in-Value
+returns-in-Value c =
+    let start = c in
+    let s = start.args.text.now in
+    let k = start.args.star in
+    let n = c.in-Value.n in
+    read_as (times_of n (take (length s - (k + 1)) (drop (k + 1) s))) (run_of s k) c.read_times.result
+    start.args.out.now c.read_times.new.out
+    (ap (λ (x : List ℕ). times_of n x) (part_to_end s (k + 1)) ∙ run_is s k n
+    (sym c.in-Value.is ∙ c.read_number-count.ensures))
+    c.read_times.ensures
+
+pub returns-in-Malformed : goal.returns-in-Malformed
+returns-in-Malformed c =
+    let start = c in
+    read-malformed (run_of start.args.text.now start.args.star) start.args.out.now
+    (run-other start.args.text.now start.args.star (sym c.in-Malformed.is ∙ c.read_number-count.ensures))

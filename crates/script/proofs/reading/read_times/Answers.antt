@@ -1,0 +1,60 @@
+-- `script::reading::read_times` meets its contract: each test is one of the definition's, and `fill` writes the bytes; the count is compared with the room before. Assumes nothing.
+use Rattle.std.proofs.Common.{ℕ, get_or, replicate, sym, ap, ◌∙◌, arith}
+use lib.ListN.{length-replicate}
+use Rattle.wire.specs.Front.{front}
+use Rattle.script.specs.Hex.{is_hex, hex_byte}
+use Rattle.script.specs.Piece.{bytes, times_of}
+use Rattle.script.specs.declared.reading.Piece.TheVariants as piece
+use Rattle.script.proofs.ScanLaws.{all-at}
+use Rattle.script.proofs.PieceLaws.{times-length, times-other, times-are, read_as, read-malformed, read-bytes, read-too-long}
+use Rattle.script.proofs.reading.read_times.Goals as goal
+
+pub returns-then-digits-ne2 : goal.returns-then-digits-ne2
+returns-then-digits-ne2 c =
+    let start = c in
+    read-malformed (times_of start.args.n start.args.digits.now) start.args.out.now
+    (times-length start.args.n start.args.digits.now c.if-digits-ne2.true)
+
+pub returns-then-out-times : goal.returns-then-out-times
+returns-then-out-times c =
+    let start = c in
+    let d = start.args.digits.now in
+    let t = replicate start.args.n (hex_byte (get_or d 0 0) (get_or d 1 0)) in
+    read_as (bytes t) (times_of start.args.n d) piece.TooLong start.args.out.now start.args.out.now
+    (times-are start.args.n d c.if-digits-ne2.false
+    (sym c.all_hex.ensures ∙ c.if-all_hex.true))
+    (read-too-long t start.args.out.now
+    (omega (arith, length-replicate start.args.n (hex_byte (get_or d 0 0) (get_or d 1 0)), c.if-out-times.true)))
+
+pub hex_byte-requires : goal.hex_byte-requires
+hex_byte-requires c =
+    let start = c in
+    let if2 = c.if-all_hex in
+    let all-hex = c.all_hex in
+    let if1 = c.if-digits-ne2 in (
+      all-at is_hex start.args.digits.now 0 (omega (arith, if1.false)) (sym all-hex.ensures ∙ if2.true),
+      all-at is_hex
+          start.args.digits.now 1 (omega (arith, if1.false)) (sym all-hex.ensures ∙ if2.true),
+    )
+
+pub returns-else-out-times : goal.returns-else-out-times
+returns-else-out-times c =
+    let start = c in
+    let d = start.args.digits.now in
+    let b = hex_byte (get_or d 0 0) (get_or d 1 0) in
+    let t = replicate start.args.n b in
+    read_as (bytes t) (times_of start.args.n d) (piece.Bytes start.args.n) start.args.out.now c.fill.new.out
+    (times-are start.args.n d c.if-digits-ne2.false
+    (sym c.all_hex.ensures
+    ∙ c.if-all_hex.true))
+    (read-bytes t start.args.n start.args.out.now c.fill.new.out
+    (omega (arith, length-replicate start.args.n b, c.if-out-times.false))
+    (sym (length-replicate start.args.n b))
+    (c.fill.ensures ∙ ap (λ (x : ℕ). front (replicate start.args.n x) start.args.out.now)
+    c.hex_byte.ensures))
+
+pub returns-else-all_hex : goal.returns-else-all_hex
+returns-else-all_hex c =
+    let start = c in
+    read-malformed (times_of start.args.n start.args.digits.now) start.args.out.now
+    (times-other start.args.n start.args.digits.now (sym c.all_hex.ensures ∙ c.if-all_hex.false))

@@ -1,0 +1,13 @@
+-- `put_frame_listing` meets its contract: the verdict and the lines are written one after the other. Assumes nothing.
+use mathlib.Core.Path.{refl}
+use Rattle.show_marks.specs.Text.{stop_from}
+use Rattle.show_frames.proofs.TurnLaws.{listing-is}
+use Rattle.show_frames.proofs.put_frame_listing.Goals as goal
+
+pub returns : goal.returns
+returns c =
+    let args = c.args in
+    let verdict = c.put_verdict-n in
+    let lines = c.put_lines in
+    listing-is args.frames.now (stop_from args.number args.place) verdict.result lines.result _ args.out.now verdict.new.out
+    lines.new.out verdict.auto.0 verdict.ensures refl lines.ensures

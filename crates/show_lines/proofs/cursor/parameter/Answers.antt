@@ -1,0 +1,61 @@
+-- Two numbers are read, as in `parameter_front`. Assumes nothing.
+use Prim.Native.Nat.{◌+◌, ◌≤◌}
+use native.Mathlib.Omega.{arith}
+use mathlib.Core.Path.{◌∙◌}
+use lib.ListN.{length, drop}
+use Rattle.wire.proofs.ListLaws.{part_to_end}
+use Rattle.varint.specs.Varint.{Found}
+use Rattle.varint.specs.declared.Got.TheVariants as got
+use Rattle.fingerprint_parameters.proofs.OneParameter.{head-within}
+use Rattle.show_lines.proofs.CodeLaws.{no-id, no_length, whole-front}
+use borrow.Author.Rules.{rules}
+use Rattle.show_lines.proofs.cursor.parameter.Goals as goal
+use Rattle.show_lines.proofs.cursor.parameter.Goals.{In-Value, In-Value-read}
+
+id-found : (c : In-Value) → Found c.args.rest.now (got.Value c.in-Value.id)
+id-found c = rw c.in-Value.is at c.read.ensures
+
+length_found : (c : In-Value-read) →
+    let args = c.args in
+    Found (drop c.in-Value.id.width args.rest.now) (got.Value c.in-Value-read.length)
+length_found c =
+    let args = c.args in
+    rw (part_to_end args.rest.now c.in-Value.id.width, c.in-Value-read.is) at c.read-2.ensures
+
+head : (c : In-Value-read) →
+    let args = c.args in
+    c.in-Value.id.width + c.in-Value-read.length.width ≤ length args.rest.now
+head c =
+    let args = c.args in
+    head-within args.rest.now _ (id-found c.before.before.before.before.before) _ (length_found c)
+
+pub returns-in_default : goal.returns-in_default
+returns-in_default c =
+    let args = c.args in
+    no-id args.at args.rest.now _ (rw c.in_default.is at c.read.ensures)
+
+pub slice_bounds-read-count : goal.slice_bounds-read-count
+slice_bounds-read-count c = (id-found c).bounds.1
+
+pub slice_bounds-read-start : goal.slice_bounds-read-start
+slice_bounds-read-start c = omega (arith, (id-found c).bounds.1)
+
+pub returns-in_default-read : goal.returns-in_default-read
+returns-in_default-read c =
+    let args = c.args in
+    let s = args.rest.now in
+    let f = rw (part_to_end s c.in-Value.id.width, c.in_default-read.is) at c.read-2.ensures in
+    no_length args.at s _ (id-found (goal.at.returns-in_default-read c).In-Value) _ f
+
+pub overflow_add-w : goal.overflow_add-w
+overflow_add-w c = omega (arith, head (goal.at.overflow_add-w c).In-Value-read)
+
+pub vector-requires : goal.vector-requires
+vector-requires c = (head (goal.at.vector-requires c).In-Value-read, search rules)
+
+pub returns : goal.returns
+returns c =
+    let args = c.args in
+    let at-id = (goal.at.returns c).In-Value in
+    let at_length = (goal.at.returns c).In-Value-read in
+    c.vector.ensures ∙ whole-front args.at args.rest.now _ (id-found at-id) _ (length_found at_length)

@@ -1,0 +1,27 @@
+-- The choice by part. Assumes nothing.
+use mathlib.Core.Path.{sym, ◌∙◌}
+use Rattle.show_lines.specs.Lines.{part_end}
+use Rattle.show_lines.proofs.PartLaws.{no_part, in-suites, in_block, in_body, in_list, in-none}
+use Rattle.show_lines.proofs.cursor.part_end.Goals as goal
+
+pub returns-in-1 : goal.returns-in-1
+unfolding part_end
+returns-in-1 c = sym (in-suites _ _ _ _ _ _ (sym c.column.ensures ∙ c.in-1.is))
+
+pub returns-in-2 : goal.returns-in-2
+unfolding part_end
+returns-in-2 c = sym (in_block _ _ _ _ _ _ (sym c.column.ensures ∙ c.in-2.is))
+
+pub returns-in-3 : goal.returns-in-3
+unfolding part_end
+returns-in-3 c = sym (in_body _ _ _ _ _ _ (sym c.column.ensures ∙ c.in-3.is))
+
+pub returns-in-4 : goal.returns-in-4
+unfolding part_end
+returns-in-4 c = sym (in_list _ _ _ _ _ _ (sym c.column.ensures ∙ c.in-4.is))
+
+pub returns-in_default : goal.returns-in_default
+unfolding part_end
+returns-in_default c =
+    let ne = c.in_default.in_default-own.rest in
+    sym (in-none _ _ _ _ _ _ (no_part _ _ c.column.ensures ne.0.0.0.1 ne.0.0.1 ne.0.1 ne.1))
