@@ -1,5 +1,4 @@
 -- The loop keeps: the swaps for the places below i, on what stands, are the whole shuffle. Assumes nothing.
-use Prim.Native.Nat.{◌-◌}
 use mathlib.Core.Path.{refl, sym, ◌∙◌}
 use native.Mathlib.Omega.{arith}
 use Rattle.tape.specs.Tape.{shuffle}

@@ -1,5 +1,4 @@
 -- `put_bytes` copies: after i turns the first i elements stand at the front. Assumes nothing.
-use Prim.Native.Nat.{◌-◌}
 use mathlib.Core.Path.{◌≡◌, refl, ◌∙◌}
 use native.Mathlib.Omega.{arith}
 use lib.ListN.{length, length-set}

@@ -1,5 +1,5 @@
 -- The loop keeps `Writing`: the numbers before place i stand in the output. Assumes nothing.
-use Prim.Native.Nat.{◌+◌, ◌-◌}
+use Prim.Native.Nat.{◌+◌}
 use mathlib.Core.Path.{◌≡◌, refl}
 use mathlib.Core.List.{◌++◌}
 use lib.ListN.{length, get_or, drop}
