@@ -51,8 +51,7 @@ build_stubs() {
 
 # The C library, and the calls beside it that only compare/ asks.
 build_archives() {
-    rt staticlib crustdelta_c
-    rt staticlib compare_calls
+    tools/build archives
 }
 
 # `--cfg test` on an ordinary binary keeps `varint::read` and the whole of fingerprint.rs, which are for tests in the
