@@ -2,7 +2,7 @@
 use mathlib.Core.Path.{sym, ◌∙◌, subst}
 use Prim.Native.Nat.{ℕ, ◌+◌, ◌-◌, ◌≤◌, zero-le}
 use mathlib.Core.List.{List}
-use lib.ListN.{length, drop, length-drop}
+use lib.ListN.{length, take, drop, length-drop}
 use borrow.Author.Tests.{le-leb, lt-leb}
 use Rattle.wire.proofs.ListLaws.{part_to_end}
 use Rattle.fingerprint_bodies.specs.Entries.{all_entries}
@@ -13,13 +13,13 @@ use Rattle.fingerprint_bodies.proofs.EntryLaws.{count-start, count_next, count_c
 use Rattle.fingerprint_bodies.proofs.FormLaws.{within-cut, within_count}
 use native.Mathlib.Omega.{arith}
 use Rattle.fingerprint_bodies.proofs.ask_entries.Goals as goal
-use Rattle.fingerprint_bodies.proofs.ask_entries.Goals.{After-one_share, In-Whole}
+use Rattle.fingerprint_bodies.proofs.ask_entries.Goals.{In-Whole}
 
-inner : (c : After-one_share) → ShareAs c.one_share.result (drop c.loop-at.at c.args.list.now)
-inner c = subst (λ (l : List ℕ). ShareAs c.one_share.result l) (part_to_end c.args.list.now c.loop-at.at) c.one_share.ensures
+inner : (list : List ℕ) (at : ℕ) (r : code.Share) → ShareAs r (take (length list - at) (drop at list)) → ShareAs r (drop at list)
+inner list at r h = subst (λ (l : List ℕ). ShareAs r l) (part_to_end list at) h
 
 found : (c : In-Whole) → ShareFound (drop c.loop-at.at c.args.list.now) c.in-Whole.field-0 c.in-Whole.used
-found c = subst (λ (x : code.Share). ShareAs x (drop c.loop-at.at c.args.list.now)) c.in-Whole.is (inner c.before.before.before)
+found c = subst (λ (x : code.Share). ShareAs x (drop c.loop-at.at c.args.list.now)) c.in-Whole.is (inner c.args.list.now c.loop-at.at c.one_share.result c.one_share.ensures)
 
 fits : (c : In-Whole) → c.loop-at.at + c.in-Whole.used ≤ length c.args.list.now
 fits c = omega (arith, (found c).within, length-drop c.loop-at.at c.args.list.now, c.loop-at-test.true)
@@ -30,7 +30,7 @@ loop-at-init c = (zero-le, zero-le, count-start one_share c.args.list.now)
 pub returns-in_default : goal.returns-in_default
 returns-in_default c =
     let l = c.loop-at in
-    let cut = subst (λ (x : code.Share). ShareAs x (drop l.at c.args.list.now)) c.in_default.is (inner (goal.at.returns-in_default c).After-one_share) in
+    let cut = subst (λ (x : code.Share). ShareAs x (drop l.at c.args.list.now)) c.in_default.is (inner c.args.list.now l.at c.one_share.result c.one_share.ensures) in
     sym (within-cut 64 (all_entries one_share c.args.list.now) (l.invariant.2 ∙ count_cut one_share c.args.list.now l.k l.at l.invariant.0 c.loop-at-test.true cut))
 
 pub overflow_add-at : goal.overflow_add-at

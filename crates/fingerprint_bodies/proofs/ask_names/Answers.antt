@@ -2,7 +2,7 @@
 use mathlib.Core.Path.{◌≡◌, sym, ap, ◌∙◌, subst}
 use Prim.Native.Nat.{ℕ, ◌+◌, ◌-◌, ◌≤◌, zero-le}
 use mathlib.Core.List.{List}
-use lib.ListN.{length, drop, length-drop}
+use lib.ListN.{length, take, drop, length-drop}
 use borrow.Author.Tests.{le-leb, lt-leb}
 use Rattle.wire.proofs.ListLaws.{part_to_end}
 use Rattle.fingerprint_bodies.specs.Forms.{one_name}
@@ -13,13 +13,13 @@ use Rattle.fingerprint_bodies.proofs.FormLaws.{names-cut, names-none, names-coun
 use borrow.Author.Rules.{rules}
 use native.Mathlib.Omega.{arith}
 use Rattle.fingerprint_bodies.proofs.ask_names.Goals as goal
-use Rattle.fingerprint_bodies.proofs.ask_names.Goals.{After-one_name, In-Whole}
+use Rattle.fingerprint_bodies.proofs.ask_names.Goals.{In-Whole}
 
-inner : (c : After-one_name) → NameAs c.one_name.result (drop c.loop-at.at c.args.list.now)
-inner c = subst (λ (l : List ℕ). NameAs c.one_name.result l) (part_to_end c.args.list.now c.loop-at.at) c.one_name.ensures
+inner : (list : List ℕ) (at : ℕ) (r : Name) → NameAs r (take (length list - at) (drop at list)) → NameAs r (drop at list)
+inner list at r h = subst (λ (l : List ℕ). NameAs r l) (part_to_end list at) h
 
 found : (c : In-Whole) → NameFound (drop c.loop-at.at c.args.list.now) c.in-Whole.length
-found c = subst (λ (x : Name). NameAs x (drop c.loop-at.at c.args.list.now)) c.in-Whole.is (inner c.before.before.before)
+found c = subst (λ (x : Name). NameAs x (drop c.loop-at.at c.args.list.now)) c.in-Whole.is (inner c.args.list.now c.loop-at.at c.one_name.result c.one_name.ensures)
 
 fits : (c : In-Whole) → c.loop-at.at + (1 + c.in-Whole.length) ≤ length c.args.list.now
 fits c = omega (arith, (found c).within, length-drop c.loop-at.at c.args.list.now, c.loop-at-test.true)
@@ -30,7 +30,7 @@ loop-at-init c = (zero-le, zero-le, count-start one_name c.args.list.now)
 pub returns-in_default : goal.returns-in_default
 returns-in_default c =
     let l = c.loop-at in
-    let cut = subst (λ (x : Name). NameAs x (drop l.at c.args.list.now)) c.in_default.is (inner (goal.at.returns-in_default c).After-one_name) in
+    let cut = subst (λ (x : Name). NameAs x (drop l.at c.args.list.now)) c.in_default.is (inner c.args.list.now l.at c.one_name.result c.one_name.ensures) in
     sym (names-cut c.args.list.now (l.invariant.2 ∙ count_cut one_name c.args.list.now l.k l.at l.invariant.0 c.loop-at-test.true cut))
 
 pub overflow_add-at : goal.overflow_add-at

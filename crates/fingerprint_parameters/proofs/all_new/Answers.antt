@@ -1,7 +1,6 @@
 -- The loop keeps: the first i numbers are distinct, and each has its mark. Assumes nothing.
 use mathlib.Core.Path.{◌≡◌, refl, sym, ◌∙◌}
 use mathlib.Core.Bool.{true, false}
-use mathlib.Core.Logic.{⊎_elim}
 use Prim.Native.Nat.{◌-◌, ◌%◌, ◌<◌, zero-le}
 use lib.ListN.{length, take, get_or, replicate, length-set}
 use Rattle.wire.specs.Sums.{member}
@@ -10,7 +9,7 @@ use Rattle.fingerprint_parameters.proofs.MemberLaws.{new-start, new-next}
 use Rattle.fingerprint_parameters.proofs.MarkLaws.{marked-none, marked_next, unmarked-new}
 use native.Mathlib.Omega.{arith}
 use Rattle.fingerprint_parameters.proofs.all_new.Goals as goal
-use Rattle.fingerprint_parameters.proofs.all_new.Goals.{In-loop-i, Joined-marks-k}
+use Rattle.fingerprint_parameters.proofs.all_new.Goals.{In-loop-i, Joined-marks-k, then-marks-k+else-among, else-marks-k}
 
 within : (c : In-loop-i) →
     let args = c.args in
@@ -27,9 +26,10 @@ not-before : (c : Joined-marks-k) →
 not-before c =
     let args = c.args in
     let loop = c.loop-i in
-    ⊎_elim (λ p. sym p.1.ensures ∙ p.2.left)
-    (λ q. unmarked-new loop.marks (take loop.i args.ids.now) (get_or args.ids.now loop.i 0) loop.invariant.2 q.left)
-    c.if-marks-k.branch
+    elim c.if-marks-k.branch [
+      then-marks-k+else-among w ↦ sym w.among.ensures ∙ w.if-among.false
+    | else-marks-k w ↦ unmarked-new loop.marks (take loop.i args.ids.now) (get_or args.ids.now loop.i 0) loop.invariant.2 w.if-marks-k.false
+    ]
 
 pub loop-i-init : goal.loop-i-init
 loop-i-init c = (zero-le, refl, marked-none (replicate 64 false), new-start c.args.ids.now)

@@ -29,8 +29,7 @@ head : (c : In-Value-read) →
     c.in-Value.id.width + c.in-Value-read.length.width ≤ length args.rest.now
 head c =
     let args = c.args in
-    let at-id = c.before.before.before.before.before in
-    head-within args.rest.now _ (id-found at-id) _ (length_found c)
+    head-within args.rest.now _ (rw c.in-Value.is at c.read.ensures) _ (length_found c)
 
 pub returns-in_default : goal.returns-in_default
 returns-in_default c =

@@ -1,6 +1,5 @@
 -- The loop keeps `Reading`. A store past the end of the array would change nothing, so both branches store alike. Assumes nothing.
 use mathlib.Core.Path.{◌≡◌, sym, ◌∙◌}
-use mathlib.Core.Logic.{⊎_elim}
 use Prim.Native.Nat.{◌-◌}
 use lib.ListN.{set}
 use lib.Seq.{set_out}
@@ -9,7 +8,7 @@ use Rattle.fingerprint_parameters.proofs.ParameterLaws.{Next, ids-cut}
 use Rattle.fingerprint_parameters.proofs.ReadingLaws.{reading-start, reading-next, reading-cut, reading-end}
 use native.Mathlib.Omega.{arith}
 use Rattle.fingerprint_parameters.proofs.read_ids.Goals as goal
-use Rattle.fingerprint_parameters.proofs.read_ids.Goals.{In-Whole, Joined-k-room}
+use Rattle.fingerprint_parameters.proofs.read_ids.Goals.{In-Whole, Joined-k-room, then-k-room, else-k-room}
 
 next : (c : In-Whole) →
     let args = c.args in
@@ -28,7 +27,10 @@ stored : (c : Joined-k-room) →
     c.if-k-room.ids ≡ set loop.ids loop.k c.in-Whole.id
 stored c =
     let loop = c.loop-at in
-    ⊎_elim (λ p. p.1) (λ p. p.1 ∙ sym (set_out loop.ids loop.k c.in-Whole.id (omega (arith, p.0.left, loop.invariant.size)))) c.if-k-room.branch
+    elim c.if-k-room.branch [
+      then-k-room w ↦ w.ids-is
+    | else-k-room w ↦ w.ids-is ∙ sym (set_out loop.ids loop.k c.in-Whole.id (omega (arith, w.if-k-room.false, loop.invariant.size)))
+    ]
 
 pub loop-at-init : goal.loop-at-init
 loop-at-init c =

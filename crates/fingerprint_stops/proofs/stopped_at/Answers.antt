@@ -25,7 +25,8 @@ overflow_add-result-then-suites-gt128 c = omega (arith, session-small (found (go
 pub returns-then-suites-gt128 : goal.returns-then-suites-gt128
 returns-then-suites-gt128 c =
     let h = c.args.hello.now in
-    bounded h (stop.At 23 _) (suites-stop (found (goal.at.returns-then-suites-gt128 c).In-Fields) c.if-suites-gt128.true)
+    let b = bounded h (stop.At 23 _) (suites-stop (found (goal.at.returns-then-suites-gt128 c).In-Fields) c.if-suites-gt128.true) in
+    record { result_value = b.0; stop_bounds = b.1 }
 
 pub block_stop-requires : goal.block_stop-requires
 block_stop-requires c =
@@ -35,7 +36,8 @@ block_stop-requires c =
 pub returns-else-suites-gt128 : goal.returns-else-suites-gt128
 returns-else-suites-gt128 c =
     let h = c.args.hello.now in
-    bounded h c.block_stop.result (c.block_stop.ensures ∙ extensions-stop (found (goal.at.returns-else-suites-gt128 c).In-Fields) c.if-suites-gt128.false)
+    let b = bounded h c.block_stop.result (c.block_stop.ensures ∙ extensions-stop (found (goal.at.returns-else-suites-gt128 c).In-Fields) c.if-suites-gt128.false) in
+    record { result_value = b.0; stop_bounds = b.1 }
 
 pub returns-in-Refused : goal.returns-in-Refused
 returns-in-Refused c =
@@ -43,4 +45,5 @@ returns-in-Refused c =
     let n = c.in-Refused.number in
     let refusal : FieldsAs (head.Refused n) h =
     subst (λ (x : Head). FieldsAs x h) c.in-Refused.is c.read_fields.ensures in
-    bounded h (stop.At n c.head_place.result) (refused-stop h n c.head_place.result refusal.0 c.head_place.ensures)
+    let b = bounded h (stop.At n c.head_place.result) (refused-stop h n c.head_place.result refusal.0 c.head_place.ensures) in
+    record { result_value = b.0; stop_bounds = b.1 }

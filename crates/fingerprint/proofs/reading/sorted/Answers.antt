@@ -1,9 +1,9 @@
-use mathlib.Core.Logic.{⊎_elim}
 use Prim.Native.Nat.{◌-◌}
 use Rattle.fingerprint_lists.specs.Arrays.{ext_type}
 use Rattle.fingerprint.proofs.PlaceLaws.{placing-as, placing-stays, placing-goes-on, sorted-start, sorted-turn, sorted-next, sorted-types}
 use native.Mathlib.Omega.{arith}
 use Rattle.fingerprint.proofs.reading.sorted.Goals as goal
+use Rattle.fingerprint.proofs.reading.sorted.Goals.{then-carried-here, else-carried-here}
 
 pub loop-i-init : goal.loop-i-init
 loop-i-init c = sorted-start c.args.types c.args.count
@@ -37,10 +37,10 @@ loop-j-smaller c = omega (arith, c.requires.0)
 
 pub loop-j-preserved : goal.loop-j-preserved
 loop-j-preserved c =
-    ⊎_elim
-    (λ w. placing-as w.1 w.2 (placing-goes-on c.loop-j.invariant (ext_type 0) c.loop-j-test.true w.0.taken))
-    (λ w. placing-as w.1 w.2 (placing-stays c.loop-j.invariant (ext_type 0) c.loop-j-test.true w.0.left))
-    c.if-carried-here.branch
+    elim c.if-carried-here.branch [
+      then-carried-here w ↦ placing-as w.items-is w.carried-is (placing-goes-on c.loop-j.invariant (ext_type 0) c.loop-j-test.true w.if-carried-here.true)
+    | else-carried-here w ↦ placing-as w.items-is w.carried-is (placing-stays c.loop-j.invariant (ext_type 0) c.loop-j-test.true w.if-carried-here.false)
+    ]
 
 pub offset_bounds-items-i : goal.offset_bounds-items-i
 offset_bounds-items-i c = omega (arith, c.requires.0)

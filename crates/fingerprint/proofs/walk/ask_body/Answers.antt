@@ -1,10 +1,11 @@
 -- `ask_body` goes by the place, as `kind_at` does, and asks what the reader of that kind asks. Assumes nothing.
 use Prim.Native.Nat.{ℕ}
-use mathlib.Core.Path.{refl, sym, ◌∙◌, subst}
+use Rattle.std.proofs.Common.{rules}
+use borrow.Author.Tests.{tests}
+use mathlib.Core.Path.{◌≡◌, refl, sym, ◌∙◌, subst}
 use Rattle.fingerprint_bodies.specs.Body.{Kind, name, groups, algorithms, protocols, versions, shares, other}
 use Rattle.fingerprint_bodies.proofs.AskLaws.{asked-name, asked-groups, asked-algorithms, asked-protocols, asked-versions, asked-shares, asked-other}
 use Rattle.fingerprint.specs.Code.{kind_at, BodyAsked}
-use Rattle.fingerprint.proofs.KindLaws.{kind-at-other}
 use Rattle.fingerprint.proofs.IdLaws.{body-without, body-parameters}
 use Rattle.fingerprint.proofs.walk.ask_body.Goals as goal
 
@@ -53,7 +54,7 @@ returns-in-6 c =
 pub returns-in_default : goal.returns-in_default
 returns-in_default c =
     let args = c.args in
-    let rest = c.in_default.in_default-own.rest in
+    let kind-is : other ≡ kind_at args.place = search (tests, rules) in
     subst (λ (k : Kind). BodyAsked k args.body.now c.without_ids-in_default.result args.ids.now args.ids.now)
-    (sym (kind-at-other args.place rest.0.0.0.0.0.0.1 rest.0.0.0.0.0.1 rest.0.0.0.0.1 rest.0.0.0.1 rest.0.0.1 rest.0.1 rest.1))
+    kind-is
     (body-without other args.body.now args.ids.now _ _ c.without_ids-in_default.ensures (sym (asked-other args.body.now)) refl c.requires)

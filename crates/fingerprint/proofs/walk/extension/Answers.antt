@@ -34,7 +34,7 @@ count-is c =
     let pre = c.requires in
     length-take-le args.count args.known.now (omega (arith, pre.2, pre.3))
 
-new : (c : Else-is_known) → member c.in-At.t (types c.before.before) ≡ false
+new : (c : Else-is_known) → member c.in-At.t (take c.args.count c.args.known.now) ≡ false
 new c = sym c.is_known.ensures ∙ c.if-is_known.false
 
 -- the kind at the type's place is the type's

@@ -1,9 +1,10 @@
 -- `slot` goes by the type, as `kind` does. Assumes nothing.
 use Prim.Native.Nat.{ℕ}
 use mathlib.Core.Path.{sym, ap}
-use Rattle.fingerprint_bodies.specs.Body.{Kind, kind}
+use Rattle.std.proofs.Common.{rules}
+use borrow.Author.Tests.{tests}
+use Rattle.fingerprint_bodies.specs.Body.{kind}
 use Rattle.fingerprint.specs.Code.{slot}
-use Rattle.fingerprint.proofs.KindLaws.{kind-other}
 use Rattle.fingerprint.proofs.walk.slot.Goals as goal
 
 pub returns-in-0 : goal.returns-in-0
@@ -35,4 +36,5 @@ unfolding kind
 returns-in-57 c = ap (λ (t : ℕ). slot (kind t)) (sym c.in-57.is)
 
 pub returns-in_default : goal.returns-in_default
-returns-in_default c = ap (λ (k : Kind). slot k) (sym (kind-other c.args.t c.in_default.in_default-own.rest.0.0.0.0.0.0.1 c.in_default.in_default-own.rest.0.0.0.0.0.1 c.in_default.in_default-own.rest.0.0.0.0.1 c.in_default.in_default-own.rest.0.0.0.1 c.in_default.in_default-own.rest.0.0.1 c.in_default.in_default-own.rest.0.1 c.in_default.in_default-own.rest.1))
+unfolding kind
+returns-in_default c = search (tests, rules)

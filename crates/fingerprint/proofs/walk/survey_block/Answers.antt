@@ -12,7 +12,7 @@ use Rattle.fingerprint.proofs.IdLaws.{few-gained, few-found}
 use Rattle.fingerprint.proofs.WalkLaws.{walking_start, walking-next, walking-stop, walking-end, types_long, types-marked, has_room}
 use native.Mathlib.Omega.{arith}
 use Rattle.fingerprint.proofs.walk.survey_block.Goals as goal
-use Rattle.fingerprint.proofs.walk.survey_block.Goals.{After-mark, In-Next}
+use Rattle.fingerprint.proofs.walk.survey_block.Goals.{In-Next}
 
 found : (c : In-Next) →
     let h = c.args.hello.now in
@@ -27,8 +27,8 @@ found c =
 room : (c : In-Next) → c.loop-at.count < 64
 room c = has_room c.loop-at.invariant (found c).0.room
 
-place-small : (c : After-mark) → c.in-Next.place < 8
-place-small c = omega (arith, (found c.before.before).0.place_is, slot_small (kind c.in-Next.t))
+place-small : (c : In-Next) → c.in-Next.place < 8
+place-small c = omega (arith, (found c).0.place_is, slot_small (kind c.in-Next.t))
 
 pub loop-at-init : goal.loop-at-init
 loop-at-init c =
@@ -54,10 +54,10 @@ pub overflow_sub-bodies : goal.overflow_sub-bodies
 overflow_sub-bodies c = (found (goal.at.overflow_sub-bodies c).In-Next).0.forward
 
 pub offset_bounds-bodies-place : goal.offset_bounds-bodies-place
-offset_bounds-bodies-place c = omega (arith, place-small c)
+offset_bounds-bodies-place c = omega (arith, place-small (goal.at.offset_bounds-bodies-place c).In-Next)
 
 pub bounds-bodies-place : goal.bounds-bodies-place
-bounds-bodies-place c = omega (arith, place-small c)
+bounds-bodies-place c = omega (arith, place-small (goal.at.bounds-bodies-place c).In-Next)
 
 pub overflow_add-count : goal.overflow_add-count
 overflow_add-count c = omega (arith, room (goal.at.overflow_add-count c).In-Next)

@@ -2,29 +2,26 @@
 use mathlib.Core.Path.{sym, ap, ◌∙◌}
 use Prim.Native.Nat.{ℕ, ◌+◌, ◌-◌, ◌≤◌, zero-le}
 use mathlib.Core.List.{List}
-use lib.ListN.{length, drop, length-drop}
+use lib.ListN.{length, take, drop, length-drop}
 use native.Mathlib.Omega.{arith}
 use Rattle.wire.specs.Sums.{member}
 use Rattle.wire.proofs.ListLaws.{part_to_end}
 use Rattle.wire.proofs.SumLaws.{member-nil}
 use Rattle.fingerprint_parameters.specs.Code.{ParameterFound, ParameterAs}
+use Rattle.fingerprint_parameters.specs.declared.Parameter.{Parameter}
 use Rattle.fingerprint_order.proofs.MemberLaws.{member-first, member-later}
 use Rattle.fingerprint_stops.proofs.RepeatLaws.{ids-start, ids-end, ids-cut, ids_next}
 use Rattle.fingerprint_stops.proofs.body.among_first.Goals as goal
-use Rattle.fingerprint_stops.proofs.body.among_first.Goals.{After-one_parameter, In-Whole}
+use Rattle.fingerprint_stops.proofs.body.among_first.Goals.{In-Whole}
 
-inner : (c : After-one_parameter) →
-    let args = c.args in
-    ParameterAs c.one_parameter.result (drop c.loop-i.at args.body.now)
-inner c =
-    let args = c.args in
-    rw (part_to_end args.body.now c.loop-i.at) at c.one_parameter.ensures
+inner : (body : List ℕ) (at : ℕ) (r : Parameter) → ParameterAs r (take (length body - at) (drop at body)) → ParameterAs r (drop at body)
+inner body at r h = rw (part_to_end body at) at h
 
 found : (c : In-Whole) →
     let args = c.args in
     let loop = c.loop-i in
     ParameterFound (drop loop.at args.body.now) c.in-Whole.other c.in-Whole.used
-found c = rw c.in-Whole.is at (inner c.before.before.before)
+found c = rw c.in-Whole.is at (inner c.args.body.now c.loop-i.at c.one_parameter.result c.one_parameter.ensures)
 
 fits : (c : In-Whole) →
     let args = c.args in
@@ -45,7 +42,7 @@ returns-in_default c =
     let args = c.args in
     let loop = c.loop-i in
     let test = c.loop-i-test in
-    let cut = rw c.in_default.is at (inner (goal.at.returns-in_default c).After-one_parameter) in
+    let cut = rw c.in_default.is at (inner c.args.body.now c.loop-i.at c.one_parameter.result c.one_parameter.ensures) in
     sym (loop.invariant.2 ∙ rw (ids-cut args.body.now args.k loop.i loop.at test.true cut) (member-nil args.id))
 
 pub returns-then-id-other : goal.returns-then-id-other

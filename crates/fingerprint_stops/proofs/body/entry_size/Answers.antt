@@ -1,4 +1,5 @@
 -- `entry_size` goes by the place, as `kind_at` does, and each kind of entry has its own reader. Assumes nothing.
+use Rattle.std.proofs.Common.{rules}
 use mathlib.Core.Path.{ap, subst}
 use native.Mathlib.Omega.{arith}
 use Rattle.fingerprint_bodies.specs.Body.{groups, algorithms, protocols, versions, shares, parameters}
@@ -96,5 +97,4 @@ returns-in-Cut-one_parameter c =
 pub returns-in_default : goal.returns-in_default
 returns-in_default c =
     let args = c.args in
-    let o = c.in_default.in_default-own.rest in
-    size-other args.rest.now args.place o.0.0.0.0.0.1 o.0.0.0.0.1 o.0.0.0.1 o.0.0.1 o.0.1 o.1
+    size-other args.rest.now args.place (search rules) (search rules) (search rules) (search rules) (search rules) (search rules)

@@ -1,4 +1,5 @@
 -- `in_body` goes by the number of the body's first "no", as `in_body` does. Assumes nothing.
+use Rattle.std.proofs.Common.{rules}
 use Prim.Native.Nat.{ℕ, ◌+◌}
 use mathlib.Core.Path.{◌≡◌, sym, ap, ◌∙◌}
 use Rattle.fingerprint_bodies.specs.Body.{Kind, kind}
@@ -48,7 +49,6 @@ returns-in_default c =
     let args = c.args in
     let asks = (goal.at.returns-in_default c).After-ask_body-asked in
     let there = c.if-body-eq0.false in
-    let o = c.in_default.in_default-own.rest in
     ap (λ (n : ℕ). 4 + n) (c.past_count.ensures.0 ∙ ap (λ (k : Kind). past k args.body.now) (same_kind asks))
     ∙ place-past (kind args.t) args.body.now there asks.ask_body-asked.result.number (number_is asks)
-    o.0.0.1 o.0.1 o.1
+    (search rules) (search rules) (search rules)

@@ -1,4 +1,5 @@
 -- `list_at` goes by the place, as `kind_at` does. Assumes nothing.
+use Rattle.std.proofs.Common.{rules}
 use Prim.Native.Nat.{ℕ}
 use mathlib.Core.Path.{sym, ap}
 use native.Mathlib.Omega.{arith}
@@ -33,5 +34,4 @@ returns-in-5 c = (ap (λ (n : ℕ). list_at (kind_at n)) (sym c.in-5.is), omega 
 
 pub returns-in_default : goal.returns-in_default
 returns-in_default c =
-    let o = c.in_default.in_default-own.rest in
-    (list-other c.args.place o.0.0.0.0.0.1 o.0.0.0.0.1 o.0.0.0.1 o.0.0.1 o.0.1 o.1, omega arith)
+    (list-other c.args.place (search rules) (search rules) (search rules) (search rules) (search rules) (search rules), omega arith)

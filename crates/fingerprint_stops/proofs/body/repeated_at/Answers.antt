@@ -1,26 +1,24 @@
 -- `repeated_at` keeps `Repeating` from one parameter to the next. Assumes nothing.
 use mathlib.Core.Path.{sym, ◌∙◌}
-use Prim.Native.Nat.{◌-◌}
+use Prim.Native.Nat.{ℕ, ◌-◌}
 use native.Mathlib.Omega.{arith}
-use lib.ListN.{drop}
+use mathlib.Core.List.{List}
+use lib.ListN.{length, take, drop}
 use Rattle.wire.proofs.ListLaws.{part_to_end}
 use Rattle.fingerprint_parameters.specs.Code.{ParameterFound, ParameterAs}
+use Rattle.fingerprint_parameters.specs.declared.Parameter.{Parameter}
 use Rattle.fingerprint_stops.proofs.RepeatLaws.{repeating-start, repeating-end, repeating-cut, repeating-here, repeating-next, next-inside}
 use Rattle.fingerprint_stops.proofs.body.repeated_at.Goals as goal
-use Rattle.fingerprint_stops.proofs.body.repeated_at.Goals.{After-one_parameter, In-Whole}
+use Rattle.fingerprint_stops.proofs.body.repeated_at.Goals.{In-Whole}
 
-inner : (c : After-one_parameter) →
-    let args = c.args in
-    ParameterAs c.one_parameter.result (drop c.loop-at.at args.body.now)
-inner c =
-    let args = c.args in
-    rw (part_to_end args.body.now c.loop-at.at) at c.one_parameter.ensures
+inner : (body : List ℕ) (at : ℕ) (r : Parameter) → ParameterAs r (take (length body - at) (drop at body)) → ParameterAs r (drop at body)
+inner body at r h = rw (part_to_end body at) at h
 
 found : (c : In-Whole) →
     let args = c.args in
     let loop = c.loop-at in
     ParameterFound (drop loop.at args.body.now) c.in-Whole.id c.in-Whole.used
-found c = rw c.in-Whole.is at (inner c.before.before.before)
+found c = rw c.in-Whole.is at (inner c.args.body.now c.loop-at.at c.one_parameter.result c.one_parameter.ensures)
 
 pub loop-at-init : goal.loop-at-init
 loop-at-init c = repeating-start c.args.body.now
@@ -29,7 +27,7 @@ pub returns-in_default : goal.returns-in_default
 returns-in_default c =
     let loop = c.loop-at in
     let test = c.loop-at-test in
-    (repeating-cut loop.invariant test.true (rw c.in_default.is at (inner (goal.at.returns-in_default c).After-one_parameter)), loop.invariant.inside)
+    (repeating-cut loop.invariant test.true (rw c.in_default.is at (inner c.args.body.now c.loop-at.at c.one_parameter.result c.one_parameter.ensures)), loop.invariant.inside)
 
 pub returns-then-among_first : goal.returns-then-among_first
 returns-then-among_first c =

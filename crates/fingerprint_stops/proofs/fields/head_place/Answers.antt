@@ -1,4 +1,5 @@
 -- `head_place` goes by the number, as the definition does. Assumes nothing.
+use Rattle.std.proofs.Common.{rules}
 use Prim.Native.Nat.{ℕ}
 use mathlib.Core.Path.{sym, ap, ◌∙◌}
 use Rattle.fingerprint_stops.specs.Stops.{head_place}
@@ -20,5 +21,4 @@ returns-in-18 c = ap (λ (n : ℕ). head_place c.args.hello.now n) (sym c.in-18.
 pub returns-in_default : goal.returns-in_default
 returns-in_default c =
     let args = c.args in
-    let o = c.in_default.in_default-own.rest in
-    c.field_place.ensures ∙ field-there args.hello.now args.number o.0.0.1 o.0.1 o.1
+    c.field_place.ensures ∙ field-there args.hello.now args.number (search rules) (search rules) (search rules)
