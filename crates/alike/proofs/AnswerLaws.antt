@@ -10,11 +10,11 @@ use Rattle.alike.proofs.SameLaws.{equal_as, numbers-tests}
 -- ---- one test after the other: the code answers by the first that fails, else by the last
 
 module _ (p q : Bool) where
-  pub fails : {r : Bool} → r ≡ p → not r ≡ true → false ≡ p && q
-  fails {r} e f = rw (← e, not-true r f)
+  pub fails : {r : Bool} → r ≡ p → r ≡ false → false ≡ p && q
+  fails {r} e f = rw (← e, f)
 
-  pub passes : {r s : Bool} → r ≡ p → not r ≡ false → s ≡ q → s ≡ p && q
-  passes {r} e f g = rw (← e, not-false r f) g
+  pub passes : {r s : Bool} → r ≡ p → r ≡ true → s ≡ q → s ≡ p && q
+  passes {r} e f g = rw (← e, f) g
 
 -- ---- whether two parts are the same, from an answer on what `part` returned of them
 

@@ -1,6 +1,6 @@
 -- What the writers take from a profile, and extensions by type and in a row. Assumes nothing.
 use Prim.Native.Nat.{ℕ, ◌+◌, ◌-◌, ◌*◌, ◌≤◌, ◌<◌}
-use mathlib.Core.Path.{◌≡◌, refl, sym, ◌∙◌}
+use mathlib.Core.Path.{◌≡◌, refl}
 use mathlib.Core.Bool.{true}
 use mathlib.Core.List.{List, [], map}
 use native.Mathlib.Nat.{sub-zero}
@@ -9,7 +9,7 @@ use native.Mathlib.Omega.{arith}
 use denote.Laws.{Is}
 use denote.Struct.Declared.{row}
 use mir.Val.{Val}
-use lib.ListN.{length, take, drop, get_or, length-map}
+use lib.ListN.{length, take, drop, get_or}
 use lib.Seq.{drop-cons, length-take-le}
 use Rattle.wire.specs.Front.{Put}
 use Rattle.wire.proofs.FrontLaws.{front-none}
@@ -44,14 +44,14 @@ pub arrays : (p : code.Profile) {vs : List Val} → Is (row the_type) p vs → A
 arrays p owned =
     let each = owned.1.1 in
     record {
-      suites = sym (length-map p.cipher_suites _) ∙ each.0.1.0.1;
-      types = sym (length-map p.extensions_order _) ∙ each.1.1.0.1.0.1;
-      groups = sym (length-map p.supported_groups _) ∙ each.1.1.1.1.0.1.0.1;
-      algorithms = sym (length-map p.signature_algorithms _) ∙ each.1.1.1.1.1.1.0.1.0.1;
-      versions = sym (length-map p.supported_versions _) ∙ each.1.1.1.1.1.1.1.1.0.1.0.1;
-      shares = sym (length-map p.key_share_groups _) ∙ each.1.1.1.1.1.1.1.1.1.1.0.1.0.1;
-      protocol = sym (length-map p.alpn _) ∙ each.1.1.1.1.1.1.1.1.1.1.1.1.0.1.0.1;
-      parameters = sym (length-map p.quic_tp _) ∙ each.1.1.1.1.1.1.1.1.1.1.1.1.1.0.1.0.1;
+      suites = each.0.1.0.1;
+      types = each.1.1.0.1.0.1;
+      groups = each.1.1.1.1.0.1.0.1;
+      algorithms = each.1.1.1.1.1.1.0.1.0.1;
+      versions = each.1.1.1.1.1.1.1.1.0.1.0.1;
+      shares = each.1.1.1.1.1.1.1.1.1.1.0.1.0.1;
+      protocol = each.1.1.1.1.1.1.1.1.1.1.1.1.0.1.0.1;
+      parameters = each.1.1.1.1.1.1.1.1.1.1.1.1.1.0.1.0.1;
     }
 
 pub length-lent : (list : List ℕ) {k : ℕ} → k ≤ length list → length (take (k - 0) list) ≡ k

@@ -3,8 +3,7 @@
 use Prim.Native.Nat.{ℕ, ◌+◌, ◌^◌}
 use mathlib.Core.Path.{◌≡◌, refl, sym, ap, ◌∙◌}
 use mathlib.Core.List.{List, [], ◌∷◌, ◌++◌, map, flatten, append_assoc}
-use native.Mathlib.Omega.{arith}
-use lib.ListN.{take, drop, get_or, replicate}
+use lib.ListN.{take, drop, replicate}
 use lib.Seq.{take_at}
 use Rattle.wire.specs.Answer.{Answer, result, refused}
 use Rattle.wire.specs.Numbers.{digits}

@@ -14,21 +14,18 @@ use borrow.Author.Tests.{eq-eqb, ne_eqb}
 use Rattle.alike.proofs.alike.Goals as goal
 use Rattle.alike.proofs.alike.Goals.{Else-y-ne0}
 
--- ODD tie
-abbrev hello-a : tie.Else2 → List ℕ
-hello-a c = c.before.before.before.before.before.before.before.before.args.a.now
+-- where both are accepted
+abbrev hello-a : Else-y-ne0 → List ℕ
+hello-a c = c.args.a.now
 
--- ODD tie
-abbrev hello-b : tie.Else2 → List ℕ
-hello-b c = c.before.before.before.before.before.before.before.before.args.b.now
+abbrev hello-b : Else-y-ne0 → List ℕ
+hello-b c = c.args.b.now
 
--- ODD tie
-abbrev report-a : tie.Else2 → Fingerprint
-report-a c = c.before.before.before.before.before.parse-clienthello.result
+abbrev report-a : Else-y-ne0 → Fingerprint
+report-a c = c.parse_clienthello-x.result
 
--- ODD tie
-abbrev report-b : tie.Else2 → Fingerprint
-report-b c = c.before.before.parse-clienthello2.result
+abbrev report-b : Else-y-ne0 → Fingerprint
+report-b c = c.parse_clienthello-y.result
 
 parsed-a : (c : Else-y-ne0) → Parsed (hello-a c) (report-a c)
 parsed-a c =
@@ -77,7 +74,7 @@ unfolding agree_of
 returns-then-not-same_name c =
     rw (answer (goal.at.returns-then-not-same_name c).Else-y-ne0)
     (passes _ _ (sym (eq-eqb _ _ c.if-x-y.false)) refl
-    (fails _ _ c.same_name.ensures c.if-not-same_name.true-raw))
+    (fails _ _ c.same_name.ensures c.if-not-same_name.true))
 
 pub same_lists-requires : goal.same_lists-requires
 same_lists-requires c = ((sane-a (goal.at.same_lists-requires c).Else-y-ne0).counts, (sane-b (goal.at.same_lists-requires c).Else-y-ne0).counts)
@@ -87,8 +84,8 @@ unfolding agree_of
 returns-then-not-same_lists c =
     rw (answer (goal.at.returns-then-not-same_lists c).Else-y-ne0)
     (passes _ _ (sym (eq-eqb _ _ c.if-x-y.false)) refl
-    (passes _ _ c.same_name.ensures c.if-not-same_name.false-raw
-    (fails _ _ c.same_lists.ensures c.if-not-same_lists.true-raw)))
+    (passes _ _ c.same_name.ensures c.if-not-same_name.false
+    (fails _ _ c.same_lists.ensures c.if-not-same_lists.true)))
 
 pub same_protocols-requires : goal.same_protocols-requires
 same_protocols-requires c =
@@ -101,9 +98,9 @@ unfolding agree_of
 returns-then-not-same_protocols c =
     rw (answer (goal.at.returns-then-not-same_protocols c).Else-y-ne0)
     (passes _ _ (sym (eq-eqb _ _ c.if-x-y.false)) refl
-    (passes _ _ c.same_name.ensures c.if-not-same_name.false-raw
-    (passes _ _ c.same_lists.ensures c.if-not-same_lists.false-raw
-    (fails _ _ c.same_protocols.ensures c.if-not-same_protocols.true-raw))))
+    (passes _ _ c.same_name.ensures c.if-not-same_name.false
+    (passes _ _ c.same_lists.ensures c.if-not-same_lists.false
+    (fails _ _ c.same_protocols.ensures c.if-not-same_protocols.true))))
 
 pub same_but_for_order-requires : goal.same_but_for_order-requires
 same_but_for_order-requires c = ((sane-a (goal.at.same_but_for_order-requires c).Else-y-ne0).counts, (sane-b (goal.at.same_but_for_order-requires c).Else-y-ne0).counts)
@@ -113,7 +110,7 @@ unfolding agree_of
 returns c =
     rw (answer (goal.at.returns c).Else-y-ne0)
     (passes _ _ (sym (eq-eqb _ _ c.if-x-y.false)) refl
-    (passes _ _ c.same_name.ensures c.if-not-same_name.false-raw
-    (passes _ _ c.same_lists.ensures c.if-not-same_lists.false-raw
-    (passes _ _ c.same_protocols.ensures c.if-not-same_protocols.false-raw
+    (passes _ _ c.same_name.ensures c.if-not-same_name.false
+    (passes _ _ c.same_lists.ensures c.if-not-same_lists.false
+    (passes _ _ c.same_protocols.ensures c.if-not-same_protocols.false
     c.same_but_for_order.ensures))))

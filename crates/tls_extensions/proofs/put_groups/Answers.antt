@@ -1,5 +1,5 @@
 -- The loop keeps `Writing`: the groups before place i stand in the output. Assumes nothing.
-use Prim.Native.Nat.{◌+◌, ◌-◌, ◌≤◌}
+use Prim.Native.Nat.{◌+◌, ◌≤◌}
 use mathlib.Core.Path.{◌≡◌, refl}
 use mathlib.Core.List.{◌++◌}
 use lib.ListN.{length, get_or, drop}
@@ -13,42 +13,40 @@ use Rattle.wire.proofs.Writing.{Writing, begins, rest-is, filled, same_length as
 use Rattle.profiles.specs.Code.{group_number, groups_in}
 use native.Mathlib.Omega.{arith}
 use Rattle.tls_extensions.proofs.put_groups.Goals as goal
-use Rattle.tls_extensions.proofs.put_groups.Goals.{In-loop-i, Start}
-
--- the count lies within the array
-within : (c : Start) → c.args.count ≤ length c.args.groups
-within c = omega (arith, c.well_formed, c.requires.0)
-
-long : (c : Start) → length (groups_in c.args.count c.args.groups) ≡ c.args.count
-long c = length-firsts group_number c.args.groups c.args.count (within c)
+use Rattle.tls_extensions.proofs.put_groups.Goals.{In-loop-i}
 
 -- the group at place i is next
 here : (c : In-loop-i)
     → let args = c.args in
-    let list = groups_in args.count args.t2 in
+    let list = groups_in args.count args.groups in
     let loop = c.loop-i in
     Writing (words list) (digits 256 2 (get_or list loop.i 0) ++ words (drop (loop.i + 1) list)) args.out.now loop.out loop.at
-here c = rest-is c.loop-i.invariant.2 (words-from _ c.loop-i.i (omega (arith, long c.before.before.before, c.loop-i-test.true)))
+here c =
+    let args = c.args in
+    let long = length-firsts group_number args.groups args.count (omega (arith, c.well_formed, c.requires.0)) in
+    rest-is c.loop-i.invariant.2 (words-from _ c.loop-i.i (omega (arith, long, c.loop-i-test.true)))
 
 pub loop-i-init : goal.loop-i-init
 loop-i-init c =
-    let start = (goal.at.loop-i-init c).Start in
-    let list = groups_in start.args.count start.args.groups in
-    (omega arith, omega arith, begins (words list) start.args.out.now (omega (arith, length-words list, long start, start.requires.1)))
+    let args = c.args in
+    let list = groups_in args.count args.groups in
+    let long = length-firsts group_number args.groups args.count (omega (arith, c.well_formed, c.requires.0)) in
+    (omega arith, omega arith, begins (words list) args.out.now (omega (arith, length-words list, long, c.requires.1)))
 
 pub w16-requires : goal.w16-requires
 w16-requires c =
     let args = c.args in
     let i = c.loop-i.i in
-    let list = groups_in args.count args.t2 in
+    let list = groups_in args.count args.groups in
     next-room (digits 256 2 (get_or list i 0)) (words (drop (i + 1) list)) (here (goal.at.w16-requires c).In-loop-i) (length_digits 256 2 (get_or list i 0))
 
 pub loop-i-preserved : goal.loop-i-preserved
 loop-i-preserved c =
     let in-loop = (goal.at.loop-i-preserved c).In-loop-i in
-    let start = in-loop.before.before.before.before.before.before.before in
+    let args = c.args in
     let loop = in-loop.loop-i in
-    let group = firsts_at group_number start.args.groups start.args.count (record { 0 = 0 }) (record { 0 = 0 }) loop.i in-loop.loop-i-test.true (within start) in (
+    let within : args.count ≤ length args.groups = omega (arith, c.well_formed, c.requires.0) in
+    let group = firsts_at group_number args.groups args.count (record { 0 = 0 }) (record { 0 = 0 }) loop.i in-loop.loop-i-test.true within in (
       omega arith,
       omega (arith, loop.invariant.1),
       writes _ _ (here in-loop) (filled (length_digits 256 2 _) (rw (← group) at c.w16.ensures)),
@@ -57,9 +55,10 @@ loop-i-preserved c =
 pub returns : goal.returns
 unfolding words
 returns c =
-    let start = (goal.at.returns c).Start in
-    let list = groups_in start.args.count start.args.groups in
-    let all : c.loop-i.i ≡ length list = omega (arith, long start) in
+    let args = c.args in
+    let list = groups_in args.count args.groups in
+    let long = length-firsts group_number args.groups args.count (omega (arith, c.well_formed, c.requires.0)) in
+    let all : c.loop-i.i ≡ length list = omega (arith, long) in
     finished (rest-is c.loop-i.invariant.2 (rw (all, drop-length list) refl))
 
 pub slice_bounds-w16-count : goal.slice_bounds-w16-count

@@ -1,12 +1,12 @@
 -- The loop keeps `Drawing`: the shares before place i stand, and the next one draws where the last stopped. Assumes nothing.
-use Prim.Native.Nat.{◌+◌, ◌-◌, ◌≤◌}
+use Prim.Native.Nat.{◌+◌, ◌≤◌}
 use mathlib.Core.Path.{◌≡◌, refl}
 use Rattle.wire.proofs.ListLaws.{length-firsts, firsts_at}
 use Rattle.profiles.specs.Code.{group_number, groups_in}
 use lib.ListN.{length, drop, get_or}
 use lib.Seq.{drop-length}
 use Rattle.profiles.specs.Sizes.{key_draws}
-use Rattle.wire.proofs.Writing.{back_from, same_length as kept, place-within}
+use Rattle.wire.proofs.Writing.{same_length as kept, place-within}
 use Rattle.tape.specs.Part.{followed}
 use Rattle.tape.proofs.PartLaws.{Drawing, starts, same-part, part_room, part-next, part-finished}
 use Rattle.tls_extensions.specs.Extensions.{key_share, key_shares}
@@ -14,61 +14,35 @@ use Rattle.tls_extensions.proofs.LengthLaws.{length-key-share}
 use Rattle.tls_extensions.proofs.ShareLaws.{shares-from, shares-rise}
 use native.Mathlib.Omega.{arith}
 use Rattle.tls_extensions.proofs.put_key_shares.Goals as goal
-use Rattle.tls_extensions.proofs.put_key_shares.Goals.{After-struct_known-1, In-loop-i, Start}
-
--- the count lies within the array
-within : (c : Start) → c.args.count ≤ length c.args.groups
-within c = omega (arith, c.well_formed, c.requires.0)
-
-long : (c : Start) → length (groups_in c.args.count c.args.groups) ≡ c.args.count
-long c = length-firsts group_number c.args.groups c.args.count (within c)
+use Rattle.tls_extensions.proofs.put_key_shares.Goals.{In-loop-i}
 
 -- the share of the group at place i is next
 here :
     (c : In-loop-i) →
     let args = c.args in
-    let groups = groups_in args.count args.t2 in
+    let groups = groups_in args.count args.groups in
     let tape = args.tape.now in
     let loop = c.loop-i in
     let share = key_share (get_or groups loop.i 0) tape loop.t in
     Drawing (key_shares groups tape args.at) (followed share (key_shares (drop (loop.i + 1) groups) tape)) args.out.now loop.out loop.n
 here c =
-    let start = c.before.before.before.before in
+    let args = c.args in
     let loop = c.loop-i in
-    let groups = groups_in start.args.count start.args.groups in
-    same-part (shares-from groups start.args.tape.now loop.i loop.t (omega (arith, long start, c.loop-i-test.true))) loop.invariant.1
+    let groups = groups_in args.count args.groups in
+    let long = length-firsts group_number args.groups args.count (omega (arith, c.well_formed, c.requires.0)) in
+    same-part (shares-from groups args.tape.now loop.i loop.t (omega (arith, long, c.loop-i-test.true))) loop.invariant.1
 
 -- the group there is the array's
 group-is :
     (c : In-loop-i) →
     let args = c.args in
     let i = c.loop-i.i in
-    get_or (groups_in args.count args.t2) i 0 ≡ (get_or args.t2 i (record { 0 = 0 })).0
+    get_or (groups_in args.count args.groups) i 0 ≡ (get_or args.groups i (record { 0 = 0 })).0
 group-is c =
-    let start = c.before.before.before.before in
+    let args = c.args in
     let i = c.loop-i.i in
-    firsts_at group_number start.args.groups start.args.count (record { 0 = 0 }) (record { 0 = 0 }) i c.loop-i-test.true (within start)
-
--- that share was written
-next_drawn :
-    (c : After-struct_known-1) →
-    let in-loop = c.before.before.before.before.before.before in
-    let args = in-loop.args in
-    let groups = groups_in args.count args.t2 in
-    let tape = args.tape.now in
-    let loop = in-loop.loop-i in
-    let w = c.put_key_share-w in
-    let rest = key_shares (drop (loop.i + 1) groups) tape w.result.next in
-    Drawing (key_shares groups tape args.at) rest args.out.now (back_from loop.n loop.out w.new.out) (loop.n + w.result.length)
-next_drawn c =
-    let in-loop = c.before.before.before.before.before.before in
-    let args = in-loop.args in
-    let groups = groups_in args.count args.t2 in
-    let tape = args.tape.now in
-    let loop = in-loop.loop-i in
-    let share = key_share (get_or groups loop.i 0) tape loop.t in
-    let written = rw (← (group-is in-loop)) at c.put_key_share-w.ensures in
-    part-next share (key_shares (drop (loop.i + 1) groups) tape) (here in-loop) written
+    let within : args.count ≤ length args.groups = omega (arith, c.well_formed, c.requires.0) in
+    firsts_at group_number args.groups args.count (record { 0 = 0 }) (record { 0 = 0 }) i c.loop-i-test.true within
 
 pub loop-i-init : goal.loop-i-init
 loop-i-init c = (omega arith, starts _ c.args.out.now c.requires.1.fits)
@@ -94,11 +68,22 @@ put_key_share-w-requires c =
 
 pub overflow_add-n : goal.overflow_add-n
 overflow_add-n c =
-    let start = c in
-    omega (arith, (next_drawn c).writing.within, start.requires.1.small)
+    let in-loop = (goal.at.overflow_add-n c).In-loop-i in
+    let args = c.args in
+    let groups = groups_in args.count args.groups in
+    let loop = c.loop-i in
+    let written = rw (← (group-is in-loop)) at c.put_key_share-w.ensures in
+    let drawn = part-next (key_share (get_or groups loop.i 0) args.tape.now loop.t) (key_shares (drop (loop.i + 1) groups) args.tape.now) (here in-loop) written in
+    omega (arith, drawn.writing.within, c.requires.1.small)
 
 pub loop-i-preserved : goal.loop-i-preserved
-loop-i-preserved c = (omega arith, next_drawn c)
+loop-i-preserved c =
+    let in-loop = (goal.at.loop-i-preserved c).In-loop-i in
+    let args = c.args in
+    let groups = groups_in args.count args.groups in
+    let loop = c.loop-i in
+    let written = rw (← (group-is in-loop)) at c.put_key_share-w.ensures in
+    (omega arith, part-next (key_share (get_or groups loop.i 0) args.tape.now loop.t) (key_shares (drop (loop.i + 1) groups) args.tape.now) (here in-loop) written)
 
 pub shape_of-out : goal.shape_of-out
 shape_of-out c = kept c.loop-i.invariant.1.writing
@@ -106,10 +91,11 @@ shape_of-out c = kept c.loop-i.invariant.1.writing
 pub returns : goal.returns
 unfolding key_shares
 returns c =
-    let start = (goal.at.returns c).Start in
-    let groups = groups_in start.args.count start.args.groups in
+    let args = c.args in
+    let groups = groups_in args.count args.groups in
     let loop = c.loop-i in
-    let all : loop.i ≡ length groups = omega (arith, long start) in
+    let long = length-firsts group_number args.groups args.count (omega (arith, c.well_formed, c.requires.0)) in
+    let all : loop.i ≡ length groups = omega (arith, long) in
     part-finished (same-part (rw (all, drop-length groups) refl) loop.invariant.1)
 
 pub bounds-groups-i : goal.bounds-groups-i

@@ -1,5 +1,5 @@
 -- The loop keeps `Noted`: the places of the parameters before i. Assumes nothing.
-use Prim.Native.Nat.{◌-◌, ◌<◌}
+use Prim.Native.Nat.{◌<◌}
 use mathlib.Core.Path.{◌≡◌, refl, sym, ap, ◌∙◌}
 use lib.ListN.{length, get_or}
 use Rattle.profiles.specs.Profile.{grease}
@@ -15,7 +15,7 @@ long c = length-listed c.args.entries c.args.count (omega (arith, c.well_formed,
 
 drawn : (c : After-parameter_draws-t)
     → let args = c.args in
-    c.parameter_draws-t.result ≡ parameter_draws (get_or (parameters_in args.count args.t1) c.loop-i.i grease)
+    c.parameter_draws-t.result ≡ parameter_draws (get_or (parameters_in args.count args.entries) c.loop-i.i grease)
 drawn c =
     let args = c.args in
     let good = c.well_formed in
@@ -26,11 +26,11 @@ drawn c =
     let i = loop.i in
     let h : i < args.count = loop-test.true in
     parameter-draws.ensures.0
-    ∙ ap parameter_draws (entry-is args.t1 i _ (omega (arith, good, pre.0)) ∙ sym (listed_at args.t1 args.count (omega (arith, good, pre.0)) i h))
+    ∙ ap parameter_draws (entry-is args.entries i _ (omega (arith, good, pre.0)) ∙ sym (listed_at args.entries args.count (omega (arith, good, pre.0)) i h))
 
 more : (c : After-parameter_draws-t)
     → let args = c.args in
-    c.loop-i.i < length (parameters_in args.count args.t1)
+    c.loop-i.i < length (parameters_in args.count args.entries)
 more c = rw (long c.before.before.before.before) c.loop-i-test.true
 
 pub loop-i-init : goal.loop-i-init

@@ -16,16 +16,13 @@ use native.Mathlib.Omega.{arith}
 use Rattle.tls_parameters.proofs.ext_quic_tp.Goals as goal
 use Rattle.tls_parameters.proofs.ext_quic_tp.Goals.{After-put_parameters-n, After-shuffle-next, Start}
 
--- ODD tie
-abbrev params : tie.Start → List Parameter
+abbrev params : Start → List Parameter
 params c = parameters_in c.args.count c.args.entries
 
--- ODD tie
-abbrev drawn : tie.Start → ℕ
+abbrev drawn : Start → ℕ
 drawn c = after_parameters (params c) c.args.at
 
--- ODD tie
-abbrev sent : tie.Start → List ℕ
+abbrev sent : Start → List ℕ
 sent c = parameters (sent_parameters (params c) c.args.scid.now c.args.tape.now c.args.at)
 
 enough : (c : Start) → c.args.count ≤ length c.args.entries
@@ -41,8 +38,8 @@ fits : (c : Start) → 4 + length (sent c) ≤ length c.args.out.now
 fits c = body-fits (params c) c.args.scid.now c.args.tape.now c.args.at c.requires.3
 
 order : (c : After-shuffle-next)
-    → let start = c.before.before.before.before.before.before in
-    c.shuffle-next.new.v ≡ shuffled_places start.args.count start.args.tape.now (drawn start)
+    → let args = c.args in
+    c.shuffle-next.new.v ≡ shuffled_places args.count args.tape.now (after_parameters (parameters_in args.count args.entries) args.at)
 order c =
     let args = c.args in
     let pre = c.requires in
@@ -51,18 +48,19 @@ order c =
     rw (first-places args.count (omega (arith, pre.0)), draw-places.ensures.0) at shuffle.ensures.1
 
 body : (c : After-put_parameters-n)
-    → let start = c.before.before.before.before.before.before.before.before.before.before.before in
-    Put (sent start) c.put_parameters-n.result (lent_from 4 start.args.out.now) c.put_parameters-n.new.out
+    → let args = c.args in
+    let params = parameters_in args.count args.entries in
+    Put (parameters (sent_parameters params args.scid.now args.tape.now args.at)) c.put_parameters-n.result (lent_from 4 args.out.now) c.put_parameters-n.new.out
 body c =
     let args = c.args in
-    let start = c.before.before.before.before.before.before.before.before.before.before.before in
+    let enough : args.count ≤ length args.entries = omega (arith, c.well_formed, c.requires.0) in
     let draw-places = c.draw_places-drawn in
     let shuffle = c.shuffle-next in
-    let after-shuffle = c.before.before.before.before.before in
+    let order = rw (first-places args.count (omega (arith, c.requires.0)), draw-places.ensures.0) at shuffle.ensures.1 in
     let put-parameters = c.put_parameters-n in
     rw (
-      shuffled-front args.count args.tape.now (drawn start) shuffle.new.v _ (order after-shuffle),
-      picked-sent args.entries args.count args.at args.scid.now args.tape.now draw-places.result.of (enough start) draw-places.ensures.1,
+      shuffled-front args.count args.tape.now (after_parameters (parameters_in args.count args.entries) args.at) shuffle.new.v _ order,
+      picked-sent args.entries args.count args.at args.scid.now args.tape.now draw-places.result.of enough draw-places.ensures.1,
     ) at put-parameters.ensures
 
 pub draw_places-drawn-requires : goal.draw_places-drawn-requires

@@ -1,7 +1,6 @@
 -- Each kind of parameter has its writer. Assumes nothing.
 use Rattle.profiles.specs.Sizes.{parameter_draws}
 use Rattle.tls_parameters.specs.Parameters.{resolve}
-use borrow.Author.Rules.{rules}
 use Rattle.tls_parameters.proofs.put_parameter.Goals as goal
 
 pub put_number-requires : goal.put_number-requires
@@ -32,14 +31,11 @@ put_value-requires c =
     let room = rw c.in-ScidSource.is at pre in
     (room.varints, room.short, room.fits)
 
-pub enum_told-1 : goal.enum_told-1
-enum_told-1 c = search rules
-
 pub put_grease-requires : goal.put_grease-requires
 unfolding resolve parameter_draws
 put_grease-requires c =
     let pre = c.requires in
-    let room = rw enum_told.given.1 at pre in
+    let room = rw c.in-Grease.is at pre in
     (room.there, room.fits)
 
 pub returns-in-Varint : goal.returns-in-Varint

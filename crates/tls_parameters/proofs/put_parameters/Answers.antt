@@ -1,5 +1,5 @@
 -- The loop keeps `Writing`: what is left are the parameters from place i of the order on. Assumes nothing.
-use Prim.Native.Nat.{◌+◌, ◌-◌}
+use Prim.Native.Nat.{◌+◌}
 use mathlib.Core.Path.{◌≡◌}
 use lib.ListN.{drop, get_or}
 use Rattle.wire.proofs.Writing.{Writing, back_from, begins, same_length as kept, place-within}
@@ -14,25 +14,25 @@ use Rattle.tls_parameters.proofs.put_parameters.Goals.{After-put_parameter-n, In
 
 pickable : (c : In-loop-i)
     → let args = c.args in
-    Pickable args.t2 args.t3 args.tape.now (get_or args.order.now c.loop-i.i 0)
+    Pickable args.entries args.places args.tape.now (get_or args.order.now c.loop-i.i 0)
 pickable c = c.requires.each c.loop-i.i c.loop-i-test.true
 
 known : (c : In-loop-i)
     → let args = c.args in
     let k = get_or args.order.now c.loop-i.i 0 in
-    parameter_of (get_or args.t2 k (record { 0 = entry.Varint 0 0 })) ≡ entry_at args.t2 k
+    parameter_of (get_or args.entries k (record { 0 = entry.Varint 0 0 })) ≡ entry_at args.entries k
 known c =
     let args = c.args in
     let good = c.well_formed in
     let loop = c.loop-i in
-    entry-is args.t2 (get_or args.order.now loop.i 0) (record { 0 = entry.Varint 0 0 }) (omega (arith, good, (pickable c).within))
+    entry-is args.entries (get_or args.order.now loop.i 0) (record { 0 = entry.Varint 0 0 }) (omega (arith, good, (pickable c).within))
 
 written : (c : After-put_parameter-n)
     → let args = c.args in
     let loop = c.loop-i in
     Writing
-    (parameters (picked args.t2 args.t3 args.order.now args.scid.now args.tape.now))
-    (parameters (picked args.t2 args.t3 (drop (loop.i + 1) args.order.now) args.scid.now args.tape.now))
+    (parameters (picked args.entries args.places args.order.now args.scid.now args.tape.now))
+    (parameters (picked args.entries args.places (drop (loop.i + 1) args.order.now) args.scid.now args.tape.now))
     args.out.now
     (back_from loop.n loop.out c.put_parameter-n.new.out)
     (loop.n + c.put_parameter-n.result)
@@ -40,16 +40,17 @@ written c =
     let args = c.args in
     let loop = c.loop-i in
     let loop-test = c.loop-i-test in
-    let in-loop = c.before.before.before.before in
     let put-parameter = c.put_parameter-n in
-    picked-written args.t2 args.t3 args.order.now args.scid.now args.tape.now loop.i loop.invariant.1 loop-test.true
-    (rw (known in-loop) at put-parameter.ensures)
+    let p = c.requires.each loop.i loop-test.true in
+    let same = entry-is args.entries (get_or args.order.now loop.i 0) (record { 0 = entry.Varint 0 0 }) (omega (arith, c.well_formed, p.within)) in
+    picked-written args.entries args.places args.order.now args.scid.now args.tape.now loop.i loop.invariant.1 loop-test.true
+    (rw same at put-parameter.ensures)
 
 pub loop-i-init : goal.loop-i-init
 loop-i-init c =
     let args = c.args in
     let pre = c.requires in
-    (omega arith, begins (parameters (picked args.t2 args.t3 args.order.now args.scid.now args.tape.now)) args.out.now pre.fits)
+    (omega arith, begins (parameters (picked args.entries args.places args.order.now args.scid.now args.tape.now)) args.out.now pre.fits)
 
 pub slice_bounds-put_parameter-count : goal.slice_bounds-put_parameter-count
 slice_bounds-put_parameter-count c = place-within c.loop-i.invariant.1
@@ -80,7 +81,7 @@ put_parameter-n-requires c =
     rw (known in-loop)
     record {
       varints = p.varints;
-      fits = picked-room args.t2 args.t3 args.order.now args.scid.now args.tape.now loop.i loop.invariant.1 loop-test.true;
+      fits = picked-room args.entries args.places args.order.now args.scid.now args.tape.now loop.i loop.invariant.1 loop-test.true;
       there = p.there;
       short = pre.short;
     }
@@ -102,4 +103,4 @@ returns c =
     let args = c.args in
     let loop = c.loop-i in
     let loop-test = c.loop-i-test in
-    picked-finished args.t2 args.t3 args.order.now args.scid.now args.tape.now loop.i loop.invariant.1 loop-test.false
+    picked-finished args.entries args.places args.order.now args.scid.now args.tape.now loop.i loop.invariant.1 loop-test.false

@@ -1,5 +1,5 @@
 -- `alike::counts::alike_ids` meets its contract: the ids before place i, as they count, stand in the array. Assumes nothing.
-use Prim.Native.Nat.{◌-◌, zero-le}
+use Prim.Native.Nat.{zero-le}
 use mathlib.Core.Path.{◌≡◌, sym}
 use Rattle.fingerprint_lists.proofs.FillLaws.{padded-none}
 use Rattle.alike.specs.Alike.{alike_id}

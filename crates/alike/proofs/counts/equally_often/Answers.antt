@@ -1,5 +1,5 @@
 -- `alike::counts::equally_often` meets its contract: the answer for all the items is that for those from place i on. Assumes nothing.
-use Prim.Native.Nat.{◌-◌, zero-le}
+use Prim.Native.Nat.{zero-le}
 use mathlib.Core.Path.{refl, sym, ◌∙◌}
 use Rattle.alike.proofs.CountLaws.{often-not, often-on, often-end}
 use borrow.Author.Rules.{rules}

@@ -18,7 +18,7 @@ returns-then-not-same_counts c =
     let y-numbers = c.type_numbers-y_numbers in
     let x-types = part-is type_number x.extensions pre.0.types x-numbers.result x-numbers.ensures in
     let y-types = part-is type_number y.extensions pre.1.types y-numbers.result y-numbers.ensures in
-    fails _ _ (c.same_counts.ensures ∙ ap₂ same_counts x-types y-types) c.if-not-same_counts.true-raw
+    fails _ _ (c.same_counts.ensures ∙ ap₂ same_counts x-types y-types) c.if-not-same_counts.true
 
 pub returns : goal.returns
 unfolding same_counts_of
@@ -34,4 +34,4 @@ returns c =
     let y-types = part-is type_number y.extensions pre.1.types y-numbers.result y-numbers.ensures in
     let x-ids = part-is alike_id x.transport_param_ids pre.0.ids x-alike.result x-alike.ensures in
     let y-ids = part-is alike_id y.transport_param_ids pre.1.ids y-alike.result y-alike.ensures in
-    passes _ _ (c.same_counts.ensures ∙ ap₂ same_counts x-types y-types) c.if-not-same_counts.false-raw (c.same_counts-2.ensures ∙ ap₂ same_counts x-ids y-ids)
+    passes _ _ (c.same_counts.ensures ∙ ap₂ same_counts x-types y-types) c.if-not-same_counts.false (c.same_counts-2.ensures ∙ ap₂ same_counts x-ids y-ids)

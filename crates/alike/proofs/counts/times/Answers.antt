@@ -1,9 +1,9 @@
 -- `alike::counts::times` meets its contract: the count so far and that from place i on make the count of all. Assumes nothing.
-use Prim.Native.Nat.{◌-◌, zero-le}
-use mathlib.Core.Logic.{⊎_elim}
+use Prim.Native.Nat.{zero-le}
 use Rattle.alike.proofs.CountLaws.{counts-here, counts-on, counts_end}
 use native.Mathlib.Omega.{arith}
 use Rattle.alike.proofs.counts.times.Goals as goal
+use Rattle.alike.proofs.counts.times.Goals.{then-items-i, else-items-i}
 
 pub loop-i-init : goal.loop-i-init
 loop-i-init c = (zero-le, zero-le, omega arith)
@@ -14,7 +14,10 @@ loop-i-preserved c =
     let x = c.args.x in
     let i = c.loop-i.i in
     let inside = c.loop-i-test.true in
-    ⊎_elim (λ w. omega (arith, counts-here items i inside x w.0.taken)) (λ w. omega (arith, counts-on items i inside x w.0.left)) c.if-items-i.branch
+    elim c.if-items-i.branch [
+      then-items-i w ↦ omega (arith, counts-here items i inside x w.if-items-i.true)
+    | else-items-i w ↦ omega (arith, counts-on items i inside x w.if-items-i.false)
+    ]
 
 pub returns : goal.returns
 returns c =

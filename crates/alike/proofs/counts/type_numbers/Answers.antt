@@ -1,5 +1,5 @@
 -- `alike::counts::type_numbers` meets its contract: the numbers of the types before place i stand in the array. Assumes nothing.
-use Prim.Native.Nat.{◌-◌, zero-le}
+use Prim.Native.Nat.{zero-le}
 use mathlib.Core.Path.{◌≡◌, refl, sym}
 use Rattle.fingerprint_lists.specs.Arrays.{ext_type}
 use Rattle.fingerprint_lists.proofs.FillLaws.{padded-none}

@@ -1,6 +1,6 @@
 -- `alike::lists::same_words` meets its contract: the numbers before place i are the same; counts or numbers that differ make lists that
 -- differ. Assumes nothing.
-use Prim.Native.Nat.{◌-◌, zero-le}
+use Prim.Native.Nat.{zero-le}
 use mathlib.Core.Path.{refl, ap}
 use mathlib.Core.List.{map, map-id}
 use Rattle.alike.proofs.SameLaws.{numbers-tests}

@@ -1,6 +1,6 @@
 -- `alike::names::same_protocols` meets its contract: the names before place i are the same; counts or names that differ make lists that
 -- differ. Assumes nothing.
-use Prim.Native.Nat.{◌-◌, zero-le}
+use Prim.Native.Nat.{zero-le}
 use mathlib.Core.Path.{refl}
 use Rattle.fingerprint_lists.specs.Arrays.{span}
 use Rattle.fingerprint.specs.Code.{part_of}
@@ -15,7 +15,7 @@ pub returns-then-n-m : goal.returns-then-n-m
 returns-then-n-m c =
     let args = c.args in
     let pre = c.requires in
-    counts-differ (part_of args.a.now) (part_of args.b.now) (span 0 0) args.t2 args.t5 args.n args.m pre.0 pre.2 protocols-tests c.if-n-m.true
+    counts-differ (part_of args.a.now) (part_of args.b.now) (span 0 0) args.x args.y args.n args.m pre.0 pre.2 protocols-tests c.if-n-m.true
 
 pub loop-i-init : goal.loop-i-init
 loop-i-init c = (zero-le, refl)
@@ -31,7 +31,7 @@ returns-then-not-same c =
     let args = c.args in
     let pre = c.requires in
     let same = c.same in
-    place-differs (part_of args.a.now) (part_of args.b.now) (span 0 0) args.t2 args.t5 args.n args.m pre.0 pre.2 protocols-tests
+    place-differs (part_of args.a.now) (part_of args.b.now) (span 0 0) args.x args.y args.n args.m pre.0 pre.2 protocols-tests
     c.loop-i.i c.loop-i-test.true
     (parts-differ c.part.ensures c.part-in-loop-i.ensures same.ensures c.if-not-same.true)
 
@@ -42,7 +42,7 @@ loop-i-preserved c =
     let same = c.same in
     let l = c.loop-i in (
       search rules,
-      one_more (part_of args.a.now) (part_of args.b.now) (span 0 0) args.t2 args.t5 args.n args.m pre.0 pre.2
+      one_more (part_of args.a.now) (part_of args.b.now) (span 0 0) args.x args.y args.n args.m pre.0 pre.2
           c.if-n-m.false l.i c.loop-i-test.true l.invariant.1
           (parts_same c.part.ensures c.part-in-loop-i.ensures same.ensures c.if-not-same.false),
     )
@@ -52,5 +52,5 @@ returns c =
     let args = c.args in
     let pre = c.requires in
     let l = c.loop-i in
-    all_same (part_of args.a.now) (part_of args.b.now) (span 0 0) args.t2 args.t5 args.n args.m pre.0 pre.2 protocols-tests
+    all_same (part_of args.a.now) (part_of args.b.now) (span 0 0) args.x args.y args.n args.m pre.0 pre.2 protocols-tests
     c.if-n-m.false l.i (omega arith) l.invariant.1

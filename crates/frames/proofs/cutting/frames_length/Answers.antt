@@ -1,5 +1,4 @@
 -- The loop keeps `Left`: n bytes are counted, and what is still to be cut makes the others. Assumes nothing.
-use Prim.Native.Nat.{◌-◌}
 use Rattle.frames.proofs.CutLaws.{Turn, starts, ends, turn, goes_on, next_small, data-small}
 use native.Mathlib.Omega.{arith}
 use Rattle.frames.proofs.cutting.frames_length.Goals as goal

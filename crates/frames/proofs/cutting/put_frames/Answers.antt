@@ -1,5 +1,4 @@
 -- The loop keeps `Left`, and `Writing`: the first n bytes of all frames stand in the output. Assumes nothing.
-use Prim.Native.Nat.{◌-◌}
 use mathlib.Core.Path.{◌≡◌}
 use lib.ListN.{length}
 use lib.Seq.{drop-length}

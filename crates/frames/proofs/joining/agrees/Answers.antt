@@ -1,5 +1,4 @@
 -- `agrees` asks at each place of the piece: after i turns it has asked at the first i. Assumes nothing.
-use Prim.Native.Nat.{◌-◌}
 use mathlib.Core.Path.{◌≡◌, refl}
 use native.Mathlib.Omega.{arith}
 use lib.ListN.{length}

@@ -1,5 +1,4 @@
 -- `all_marked` asks at each place: after i turns it has asked at the first i. Assumes nothing.
-use Prim.Native.Nat.{◌-◌}
 use mathlib.Core.Path.{◌≡◌, refl}
 use native.Mathlib.Omega.{arith}
 use lib.ListN.{length}

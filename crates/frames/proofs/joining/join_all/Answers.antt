@@ -1,5 +1,5 @@
 -- The loop keeps `Laying`: the pieces placed and the frames still to be read give what all frames give. Assumes nothing.
-use Prim.Native.Nat.{ℕ, ◌+◌, ◌-◌, ◌≤◌}
+use Prim.Native.Nat.{ℕ, ◌+◌, ◌≤◌}
 use mathlib.Core.Path.{sym, ◌∙◌}
 use lib.ListN.{length, drop, length-drop}
 use Rattle.wire.proofs.ListLaws.{part_to_end}
@@ -35,7 +35,7 @@ gone c =
     let loop = c.loop-at in
     let loop-test = c.loop-at-test in
     let join-frame = c.join_frame in
-    goes_on loop.invariant loop-test.true (stepped c) join-frame.auto.1.0 join-frame.auto.1.1.0
+    goes_on loop.invariant loop-test.true (stepped c) join-frame.auto.out join-frame.auto.marks
 
 within : (c : In-Next) →
     let args = c.args in
@@ -48,15 +48,13 @@ within c =
 
 -- the PADDING after it
 passed : (c : After-padding-at) →
-    let frame = c.before.before.before in
-    let args = frame.args in
-    let loop = frame.loop-at in
-    Padding c.padding-at.result (drop (loop.at + used frame) args.frames.now)
+    let args = c.args in
+    let loop = c.loop-at in
+    Padding c.padding-at.result (drop (loop.at + c.in-Next.used) args.frames.now)
 passed c =
-    let frame = c.before.before.before in
-    let args = frame.args in
-    let loop = frame.loop-at in
-    rw (part_to_end args.frames.now (loop.at + used frame)) at c.padding-at.ensures
+    let args = c.args in
+    let loop = c.loop-at in
+    rw (part_to_end args.frames.now (loop.at + c.in-Next.used)) at c.padding-at.ensures
 
 pub loop-at-init : goal.loop-at-init
 loop-at-init c =
@@ -68,9 +66,6 @@ join_frame-requires c =
     let pre = c.requires in
     let loop = c.loop-at in
     (omega (arith, loop.invariant.long, pre.0), omega (arith, loop.invariant.wide, pre.1), loop.invariant.ends)
-
-pub enum_known-used : goal.enum_known-used
-enum_known-used c = omega (arith, c.in-Next.in-Next-own.keys1)
 
 pub overflow_add-at : goal.overflow_add-at
 overflow_add-at c =
@@ -110,20 +105,17 @@ loop-at-smaller c = omega (arith, within (goal.at.loop-at-smaller c).In-Next)
 pub loop-at-preserved : goal.loop-at-preserved
 loop-at-preserved c = gone (goal.at.loop-at-preserved c).In-Next
 
-pub enum_known-n : goal.enum_known-n
-enum_known-n c = omega (arith, c.in-Refused.in-Refused-own.keys2)
-
 pub shape_of-out-in-Refused : goal.shape_of-out-in-Refused
 shape_of-out-in-Refused c =
     let loop = c.loop-at in
     let join-frame = c.join_frame in
-    join-frame.auto.1.0 ∙ loop.invariant.long
+    join-frame.auto.out ∙ loop.invariant.long
 
 pub shape_of-marks-in-Refused : goal.shape_of-marks-in-Refused
 shape_of-marks-in-Refused c =
     let loop = c.loop-at in
     let join-frame = c.join_frame in
-    join-frame.auto.1.1.0 ∙ loop.invariant.wide
+    join-frame.auto.marks ∙ loop.invariant.wide
 
 pub returns-in-Refused : goal.returns-in-Refused
 returns-in-Refused c =

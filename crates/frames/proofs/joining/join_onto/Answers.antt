@@ -19,7 +19,7 @@ join_all-requires c =
     let fill = c.fill in
     let fill2 = c.fill-2 in
     let within = within-room args.out.now args.marks.now (sym has_room.ensures ∙ if1.false) in
-    (omega (arith, fill.auto.0, within.0), omega (arith, fill2.auto.0, within.1), fill.ensures ∙ ap (λ (n : ℕ). replicate n 0) (sym fill.auto.0), fill2.ensures ∙ ap (λ (n : ℕ). replicate n 0) (sym fill2.auto.0))
+    (omega (arith, fill.auto.out, within.0), omega (arith, fill2.auto.out, within.1), fill.ensures ∙ ap (λ (n : ℕ). replicate n 0) (sym fill.auto.out), fill2.ensures ∙ ap (λ (n : ℕ). replicate n 0) (sym fill2.auto.out))
 
 pub returns-in-End : goal.returns-in-End
 returns-in-End c =
@@ -28,7 +28,7 @@ returns-in-End c =
     let fill = c.fill in
     let fill2 = c.fill-2 in
     let join-all = c.join_all in
-    joined-whole (sym has_room.ensures ∙ if1.false) fill.auto.0 fill2.auto.0 (rw c.in-End.is at join-all.ensures)
+    joined-whole (sym has_room.ensures ∙ if1.false) fill.auto.out fill2.auto.out (rw c.in-End.is at join-all.ensures)
 
 pub returns-in-Refused : goal.returns-in-Refused
 returns-in-Refused c =
@@ -39,4 +39,4 @@ returns-in-Refused c =
     let fill3 = c.fill-in-Refused in
     let fill4 = c.fill-in-Refused-2 in
     let joined = c.join_all in
-    joined-none (sym has_room.ensures ∙ if1.false) (rw c.in-Refused.is at joined.ensures) (joined.auto.1.0 ∙ fill.auto.0) (joined.auto.1.1.0 ∙ fill2.auto.0) fill3.ensures fill4.ensures
+    joined-none (sym has_room.ensures ∙ if1.false) (rw c.in-Refused.is at joined.ensures) (joined.auto.out ∙ fill.auto.out) (joined.auto.marks ∙ fill2.auto.out) fill3.ensures fill4.ensures

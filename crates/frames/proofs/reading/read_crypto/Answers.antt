@@ -34,9 +34,9 @@ length-within : (c : In-Value-read) →
     let args = c.args in
     1 + c.in-Value.offset.width + c.in-Value-read.length.width ≤ length args.input.now
 length-within c =
-    let start = c in
-    let earlier = c.before.before.before.before.before.before in
-    within-length start.args.input.now _ (offset-found earlier) _ (length_found c) start.requires
+    let args = c.args in
+    let found = rw (part_to_end args.input.now 1, c.in-Value.is) at c.read.ensures in
+    within-length args.input.now _ found _ (length_found c) c.requires
 
 pub returns-in_default : goal.returns-in_default
 returns-in_default c =

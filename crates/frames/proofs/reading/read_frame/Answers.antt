@@ -1,6 +1,7 @@
 -- `read_frame` goes by the type at the front. Assumes nothing.
 use Rattle.frames.proofs.ReadLaws.{no-frame, is-padding, is-ping, is-crypto, is-unknown}
 use native.Mathlib.Omega.{arith}
+use borrow.Author.Rules.{rules}
 use Rattle.frames.proofs.reading.read_frame.Goals as goal
 
 pub returns-then-input-eq0 : goal.returns-then-input-eq0
@@ -24,4 +25,4 @@ returns-in-6 c =
 pub returns-in_default : goal.returns-in_default
 returns-in_default c =
     let args = c.args in
-    is-unknown args.input.now (omega (arith, c.if-input-eq0.false)) c.in_default.in_default-own.rest.0.0.1 c.in_default.in_default-own.rest.0.1 c.in_default.in_default-own.rest.1
+    is-unknown args.input.now (omega (arith, c.if-input-eq0.false)) (search rules) (search rules) (search rules)

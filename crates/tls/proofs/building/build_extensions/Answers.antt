@@ -1,11 +1,11 @@
 -- The loop keeps `Drawing`: the extensions before place i stand, and the next one draws where the last stopped. Assumes nothing.
-use Prim.Native.Nat.{◌+◌, ◌-◌, ◌<◌}
+use Prim.Native.Nat.{◌+◌, ◌<◌}
 use mathlib.Core.Path.{◌≡◌, refl}
 use mathlib.Core.List.{map}
 use native.Mathlib.Omega.{arith}
 use lib.ListN.{length, drop, get_or, get_or-map}
 use lib.Seq.{drop-length}
-use Rattle.wire.proofs.Writing.{back_from, same_length as kept, place-within}
+use Rattle.wire.proofs.Writing.{same_length as kept, place-within}
 use Rattle.profiles.specs.Code.{type_number, profile_of}
 use Rattle.tape.specs.Part.{followed}
 use Rattle.tape.proofs.PartLaws.{Drawing, starts, same-part, part_room, part-next, part-finished}
@@ -14,7 +14,7 @@ use Rattle.tls.specs.Writing.{types_at}
 use Rattle.tls.proofs.Extents.{extensions-rise}
 use Rattle.tls.proofs.BuildLaws.{extensions_of, extension_at, extensions-from}
 use Rattle.tls.proofs.building.build_extensions.Goals as goal
-use Rattle.tls.proofs.building.build_extensions.Goals.{After-struct_known-1, In-loop-i}
+use Rattle.tls.proofs.building.build_extensions.Goals.{In-loop-i}
 
 -- the extension at place i of the order is next
 here :
@@ -48,32 +48,6 @@ type-is c =
 -- the place is one of the array's
 place-below : (c : In-loop-i) → get_or c.args.order.now c.loop-i.i 0 < 16
 place-below c = c.requires.places c.loop-i.i c.loop-i-test.true
-
--- that extension was written
-next_drawn :
-    (c : After-struct_known-1) →
-    let in-loop = c.before.before.before.before.before.before.before in
-    let args = in-loop.args in
-    let order = args.order.now in
-    let name = args.name.now in
-    let scid = args.scid.now in
-    let tape = args.tape.now in
-    let loop = in-loop.loop-i in
-    let w = c.build_extension-w in
-    let whole = extensions_of args.profile name scid tape order args.at in
-    let rest = extensions_of args.profile name scid tape (drop (loop.i + 1) order) w.result.next in
-    Drawing whole rest args.out.now (back_from loop.n loop.out w.new.out) (loop.n + w.result.length)
-next_drawn c =
-    let in-loop = c.before.before.before.before.before.before.before in
-    let args = in-loop.args in
-    let order = args.order.now in
-    let name = args.name.now in
-    let scid = args.scid.now in
-    let tape = args.tape.now in
-    let loop = in-loop.loop-i in
-    let written = rw (← (type-is in-loop)) at c.build_extension-w.ensures in
-    part-next (extension_at args.profile name scid tape order loop.i loop.t) (extensions_of args.profile name scid tape (drop (loop.i + 1) order))
-    (here in-loop) written
 
 pub loop-i-init : goal.loop-i-init
 loop-i-init c =
@@ -110,10 +84,26 @@ build_extension-w-requires c =
     }
 
 pub overflow_add-n : goal.overflow_add-n
-overflow_add-n c = omega (arith, (next_drawn c).writing.within, c.requires.part.has.small)
+overflow_add-n c =
+    let args = c.args in
+    let in-loop = (goal.at.overflow_add-n c).In-loop-i in
+    let loop = c.loop-i in
+    let written = rw (← (type-is in-loop)) at c.build_extension-w.ensures in
+    let next = extension_at args.profile args.name.now args.scid.now args.tape.now args.order.now loop.i loop.t in
+    let later = extensions_of args.profile args.name.now args.scid.now args.tape.now (drop (loop.i + 1) args.order.now) in
+    let drawn = part-next next later (here in-loop) written in
+    omega (arith, drawn.writing.within, c.requires.part.has.small)
 
 pub loop-i-preserved : goal.loop-i-preserved
-loop-i-preserved c = (omega arith, next_drawn c)
+loop-i-preserved c =
+    let args = c.args in
+    let in-loop = (goal.at.loop-i-preserved c).In-loop-i in
+    let loop = c.loop-i in
+    let written = rw (← (type-is in-loop)) at c.build_extension-w.ensures in
+    let next = extension_at args.profile args.name.now args.scid.now args.tape.now args.order.now loop.i loop.t in
+    let later = extensions_of args.profile args.name.now args.scid.now args.tape.now (drop (loop.i + 1) args.order.now) in
+    let drawn = part-next next later (here in-loop) written in
+    (omega arith, drawn)
 
 pub shape_of-out : goal.shape_of-out
 shape_of-out c = kept c.loop-i.invariant.1.writing

@@ -1,5 +1,4 @@
 -- The loop keeps: `plain` is the test of the bytes before place i. Assumes nothing.
-use Prim.Native.Nat.{◌-◌}
 use mathlib.Core.Path.{ap, ◌∙◌}
 use lib.Seq.{take_all}
 use Rattle.tls.specs.Make

@@ -29,10 +29,11 @@ chosen :
     let count = args.profile.extension_count - 0 in
     Ordered args.profile args.tape.now (take count (c.put_in_order-at.new.order ++ post_of 0 count first_places)) (c.put_in_order-at.result)
 chosen c =
-    let start = c.before.before.before.before.before.before.before.before in
-    let args = start.args in
+    let args = c.args in
     let put = c.put_in_order-at.ensures in
-    ordered args.profile start.requires.sound (sixteen start) (drawn c.before.before.before) args.tape.now put.1 (post_of 0 (args.profile.extension_count - 0) first_places) put.0
+    let sixteen = (arrays args.profile c.well_formed.1.0).types in
+    let drawn = ap (λ n. 32 + n) c.session_length-drawn.ensures.0 in
+    ordered args.profile c.requires.sound sixteen drawn args.tape.now put.1 (post_of 0 (args.profile.extension_count - 0) first_places) put.0
 
 pub put_in_order-at-requires : goal.put_in_order-at-requires
 put_in_order-at-requires c =

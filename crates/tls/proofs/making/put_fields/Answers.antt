@@ -13,7 +13,7 @@ use Rattle.tls.proofs.BuildLaws.{arrays}
 use Rattle.tls.proofs.HelloLaws.{closing, length-session, length-closing, length_fields, random-stands, session-stands}
 use native.Mathlib.Omega.{arith}
 use Rattle.tls.proofs.making.put_fields.Goals as goal
-use Rattle.tls.proofs.making.put_fields.Goals.{After-out-2-1, After-slice_known-2-1, After-slice_known-3-1, Start}
+use Rattle.tls.proofs.making.put_fields.Goals.{After-slice_known-2-1, After-slice_known-3-1, Start}
 
 -- the profile's count is within its array of 3
 few : (c : Start) → c.args.profile.suite_count ≤ length c.args.profile.cipher_suites
@@ -51,7 +51,7 @@ session c =
     let args = c.args in
     let session-length = c.session_length-s in
     let put-session = c.put_session in
-    session-stands (profile_of args.profile) args.tape.now session-length.ensures.0 (random c.before.before.before.before) put-session.ensures
+    session-stands (profile_of args.profile) args.tape.now session-length.ensures.0 (random-stands (profile_of args.profile) args.tape.now session-length.ensures.0 c.requires.1 c.put_random.ensures) put-session.ensures
 
 pub put_random-requires : goal.put_random-requires
 put_random-requires c =
@@ -89,7 +89,7 @@ put_suites-requires c =
     let start = (goal.at.put_suites-requires c).Start in
     let p = start.args.profile in
     let suites = (profile_of p).cipher_suites in
-    rw (sub-zero p.suite_count) (last-room (closing suites) (session (goal.at.put_suites-requires c).After-out-2-1) (length-closing suites), omega (arith, at-most-16 start))
+    rw (sub-zero p.suite_count) (last-room (closing suites) (session (goal.at.put_suites-requires c).After-slice_known-3-1) (length-closing suites), omega (arith, at-most-16 start))
 
 pub overflow_add-result : goal.overflow_add-result
 overflow_add-result c =
@@ -104,4 +104,4 @@ pub returns : goal.returns
 returns c =
     let put-suites = c.put_suites in
     let p = c.args.profile in
-    last_written (closing (profile_of p).cipher_suites) (session (goal.at.returns c).After-out-2-1) (rw (sub-zero p.suite_count) at put-suites.ensures)
+    last_written (closing (profile_of p).cipher_suites) (session (goal.at.returns c).After-slice_known-3-1) (rw (sub-zero p.suite_count) at put-suites.ensures)

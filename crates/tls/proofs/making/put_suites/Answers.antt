@@ -11,7 +11,7 @@ use Rattle.wire.proofs.Writing.{Writing, back_from, filled, place-within, next-r
 use Rattle.tls.proofs.HelloLaws.{closing-is, length-closing}
 use native.Mathlib.Omega.{arith}
 use Rattle.tls.proofs.making.put_suites.Goals as goal
-use Rattle.tls.proofs.making.put_suites.Goals.{After-put_bytes-arg-1, After-slice_known-3-1}
+use Rattle.tls.proofs.making.put_suites.Goals.{After-slice_known-3-1}
 
 -- length and suites stand
 written :
@@ -48,7 +48,7 @@ pub slice_bounds-put_bytes-start : goal.slice_bounds-put_bytes-start
 slice_bounds-put_bytes-start c = place-within (written c)
 
 pub put_bytes-requires : goal.put_bytes-requires
-put_bytes-requires c = next-room (1 ∷ 0 ∷ []) [] (written (goal.at.put_bytes-requires c).After-put_bytes-arg-1) refl
+put_bytes-requires c = next-room (1 ∷ 0 ∷ []) [] (written (goal.at.put_bytes-requires c).After-slice_known-3-1) refl
 
 pub overflow_add-result : goal.overflow_add-result
 overflow_add-result c =
@@ -62,4 +62,4 @@ pub returns : goal.returns
 returns c =
     let args = c.args in
     let put-bytes = c.put_bytes in
-    rw (← closing-is args.suites.now) (last_written (1 ∷ 0 ∷ []) (written (goal.at.returns c).After-put_bytes-arg-1) put-bytes.ensures)
+    rw (← closing-is args.suites.now) (last_written (1 ∷ 0 ∷ []) (written (goal.at.returns c).After-slice_known-3-1) put-bytes.ensures)
