@@ -144,7 +144,7 @@ pub fn all_plain(text: &[u8]) -> bool
 
 // Whether a text is this one byte.
 fn is_only(text: &[u8], byte: u8) -> bool
-    ensures { result ≡ isOnly byte text.now }
+    ensures { result ≡ is_only byte text.now }
 {
     if text.len() == 1 {
         text[0] == byte
@@ -154,8 +154,8 @@ fn is_only(text: &[u8], byte: u8) -> bool
 }
 
 fn hex_byte(high: u8, low: u8) -> u8
-    requires { (isHex high ≡ true) × (isHex low ≡ true) }
-    ensures { result ≡ hexByte high low }
+    requires { (is_hex high ≡ true) × (is_hex low ≡ true) }
+    ensures { result ≡ hex_byte high low }
 {
     hex_digit(high) * 16 + hex_digit(low)
 }

@@ -8,10 +8,8 @@ use Rattle.script_writing.proofs.AnswerLaws.{written_one}
 use Rattle.reports.proofs.PartLaws.{list-start, list-next, list-end, map_next}
 use borrow.Author.Rules.{rules}
 use native.Mathlib.Omega.{arith}
+use Rattle.reports.proofs.lists.put_words.Invariants.{parts}
 use Rattle.reports.proofs.lists.put_words.Goals as goal
-
-abbrev parts : List ℕ → ℕ → List (List ℕ)
-parts items i = map word_text (take i items)
 
 pub loop-i-init : goal.loop-i-init
 loop-i-init c =
@@ -28,7 +26,7 @@ loop-i-preserved c =
     let inside : l.i < length args.items.now = omega (arith, c.requires) in
     let t : List ℕ = word_text (get_or args.items.now l.i 0) in
     list-next args.label.now (parts args.items.now) args.count text.result text.new.out l.at l.i l.out l.invariant word.result (t ∷ []) word.new.out
-    c.loop-i-test.true (map_next args.items.now l.i 0 inside word_text) word.auto.0 (written_one t word.result _ word.new.out word.ensures)
+    c.loop-i-test.true (map_next args.items.now l.i 0 inside word_text) word.auto.out (written_one t word.result _ word.new.out word.ensures)
 
 pub returns : goal.returns
 returns c =

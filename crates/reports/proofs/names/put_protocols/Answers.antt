@@ -10,17 +10,15 @@ use Rattle.reports.specs.Code.{span_parts}
 use Rattle.reports.proofs.PartLaws.{list-start, list-next, list-end, each_next}
 use borrow.Author.Rules.{rules}
 use native.Mathlib.Omega.{arith}
+use Rattle.reports.proofs.names.put_protocols.Invariants.{parts}
 use Rattle.reports.proofs.names.put_protocols.Goals as goal
-
-abbrev parts : List ℕ → List Span → ℕ → List (List ℕ)
-parts h spans i = each (span_parts h) (take i spans)
 
 pub loop-i-init : goal.loop-i-init
 unfolding each
 loop-i-init c =
     let args = c.args in
     let text = c.put_text-at in
-    list-start alpn_label (parts args.hello.now args.t3) args.count text.result text.new.out refl (search rules)
+    list-start alpn_label (parts args.hello.now args.spans) args.count text.result text.new.out refl (search rules)
 
 pub bounds-spans-i : goal.bounds-spans-i
 bounds-spans-i c = omega (arith, c.requires.0.long, c.requires.0.few)
@@ -34,13 +32,13 @@ loop-i-preserved c =
     let text = c.put_text-at in
     let l = c.loop-i in
     let range = c.put_range-at in
-    let inside : l.i < length args.t3 = omega (arith, c.requires.0.long, c.requires.0.few) in
-    list-next alpn_label (parts args.hello.now args.t3) args.count text.result text.new.out l.at l.i l.out l.invariant range.result _ range.new.out
-    c.loop-i-test.true (each_next args.t3 l.i (span 0 0) inside (span_parts args.hello.now)) range.auto.0 range.ensures
+    let inside : l.i < length args.spans = omega (arith, c.requires.0.long, c.requires.0.few) in
+    list-next alpn_label (parts args.hello.now args.spans) args.count text.result text.new.out l.at l.i l.out l.invariant range.result _ range.new.out
+    c.loop-i-test.true (each_next args.spans l.i (span 0 0) inside (span_parts args.hello.now)) range.auto.out range.ensures
 
 pub returns : goal.returns
 returns c =
     let args = c.args in
     let text = c.put_text-at in
     let l = c.loop-i in
-    list-end alpn_label (parts args.hello.now args.t3) args.count text.result text.new.out l.at l.i l.out l.invariant args.out.now c.loop-i-test.false text.ensures
+    list-end alpn_label (parts args.hello.now args.spans) args.count text.result text.new.out l.at l.i l.out l.invariant args.out.now c.loop-i-test.false text.ensures

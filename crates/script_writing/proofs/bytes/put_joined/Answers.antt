@@ -10,12 +10,7 @@ use Rattle.script_writing.specs.Shown.{run_text, joined_text}
 use Rattle.script_writing.proofs.HexLaws.{length-hex_text}
 use Rattle.script_writing.proofs.ShownLaws.{written, not_written, was-written, stored-lent, stored-lent-same, length-run_text, length-joined-run}
 use Rattle.script_writing.proofs.bytes.put_joined.Goals as goal
-use Rattle.script_writing.proofs.bytes.put_joined.Goals.{After-put_hex-at, Else-out-after-2}
-
--- the text fits
-fits : (c : Else-out-after-2)
-    → 2 * length c.args.head.now + (c.decimal_width-after.result + 4) ≤ length c.args.out.now
-fits c = omega (arith, c.if-out-after.false, c.if-out-after-2.false)
+use Rattle.script_writing.proofs.bytes.put_joined.Goals.{After-put_hex-at}
 
 -- the hex was written
 hex : (c : After-put_hex-at)
@@ -23,7 +18,7 @@ hex : (c : After-put_hex-at)
 hex c =
     let start = c in
     was-written (hex_text start.args.head.now) c.put_hex-at.result start.args.out.now c.put_hex-at.new.out c.put_hex-at.ensures
-    (omega (arith, length-hex_text start.args.head.now, fits c.before.before))
+    (omega (arith, length-hex_text start.args.head.now, c.if-out-after.false, c.if-out-after-2.false))
 
 place : (c : After-put_hex-at)
     → c.put_hex-at.result ≡ 2 * length c.args.head.now
@@ -55,19 +50,19 @@ returns-then-out-after-2 c =
     ))
 
 pub bounds-out-at : goal.bounds-out-at
-bounds-out-at c = omega (arith, place (goal.at.bounds-out-at c).After-put_hex-at, fits (goal.at.bounds-out-at c).Else-out-after-2)
+bounds-out-at c = omega (arith, place (goal.at.bounds-out-at c).After-put_hex-at, c.if-out-after.false, c.if-out-after-2.false)
 
 pub slice_bounds-put_run-count : goal.slice_bounds-put_run-count
-slice_bounds-put_run-count c = simp length-set (omega (arith, place (goal.at.slice_bounds-put_run-count c).After-put_hex-at, fits (goal.at.slice_bounds-put_run-count c).Else-out-after-2))
+slice_bounds-put_run-count c = simp length-set (omega (arith, place (goal.at.slice_bounds-put_run-count c).After-put_hex-at, c.if-out-after.false, c.if-out-after-2.false))
 
 pub slice_bounds-put_run-start : goal.slice_bounds-put_run-start
-slice_bounds-put_run-start c = simp length-set (omega (arith, place (goal.at.slice_bounds-put_run-start c).After-put_hex-at, fits (goal.at.slice_bounds-put_run-start c).Else-out-after-2))
+slice_bounds-put_run-start c = simp length-set (omega (arith, place (goal.at.slice_bounds-put_run-start c).After-put_hex-at, c.if-out-after.false, c.if-out-after-2.false))
 
 pub shape_of-out : goal.shape_of-out
 shape_of-out c =
     let hex = c.put_hex-at in
     let run = c.put_run in
-    stored-lent-same hex.new.out run.new.out plus hex.result run.auto.0 ∙ hex.auto.0
+    stored-lent-same hex.new.out run.new.out plus hex.result run.auto.out ∙ hex.auto.out
 
 pub returns : goal.returns
 unfolding joined_text
@@ -81,7 +76,7 @@ returns c =
     let run = c.put_run in
     let p = hex (goal.at.returns c).After-put_hex-at in
     let w = place (goal.at.returns c).After-put_hex-at in
-    let f = fits (goal.at.returns c).Else-out-after-2 in
+    let f : 2 * length h + (width.result + 4) ≤ length old = omega (arith, c.if-out-after.false, c.if-out-after-2.false) in
     let n = length-joined-run h args.times args.byte width.result width.ensures.0 in
     let whole = was-written text run.result _ run.new.out run.ensures
     (simp (length-take, length-drop, length-set) (omega (arith, w, f, length-run_text args.times args.byte, width.ensures.0))) in

@@ -22,7 +22,7 @@ pub shape_of-out : goal.shape_of-out
 shape_of-out c =
     let number = c.put_decimal in
     let pair = c.put_pair in
-    stored-lent-same number.new.out pair.new.out star c.decimal_width-width.result pair.auto.0 ∙ number.auto.0
+    stored-lent-same number.new.out pair.new.out star c.decimal_width-width.result pair.auto.out ∙ number.auto.out
 
 pub returns : goal.returns
 unfolding run_text

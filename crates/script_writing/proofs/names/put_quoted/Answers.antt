@@ -13,7 +13,6 @@ use Rattle.script_writing.specs.Names.{quoted}
 use Rattle.script_writing.proofs.ShownLaws.{written, not_written, stored-after, stored-lent, stored-lent-same}
 use Rattle.script_writing.proofs.NameLaws.{length-quoted}
 use Rattle.script_writing.proofs.names.put_quoted.Goals as goal
-use Rattle.script_writing.proofs.names.put_quoted.Goals.{After-slice_known-2-1}
 
 pub returns-then-out-lt2 : goal.returns-then-out-lt2
 returns-then-out-lt2 c =
@@ -25,20 +24,17 @@ returns-then-out-n c =
     let args = c.args in
     not_written (quoted args.name.now) args.out.now (omega (arith, length-quoted args.name.now))
 
--- ODD tie
-abbrev opened : tie.After-slice-known2 → List ℕ
-opened c =
-    let old = c.before.before.before.before.before.before.before.before.args.out.now in
-    put_mid 1 (length (set old 0 quote) - 1) (set old 0 quote) c.before.before.put-bytes.new.0
-
-as_long : (c : After-slice_known-2-1) → length (opened c) ≡ length c.args.out.now
-as_long c = stored-lent-same c.args.out.now c.put_bytes.new.out quote 0 c.put_bytes.auto.0
+-- the first quote and the name stand
+abbrev opened : List ℕ → List ℕ → List ℕ
+opened old name = put_mid 1 (length (set old 0 quote) - 1) (set old 0 quote) name
 
 pub bounds-out-n : goal.bounds-out-n
-bounds-out-n c = rw (as_long c) (omega (arith, c.if-out-n.false))
+bounds-out-n c = rw (stored-lent-same c.args.out.now c.put_bytes.new.out quote 0 c.put_bytes.auto.out) (omega (arith, c.if-out-n.false))
 
 pub shape_of-out : goal.shape_of-out
-shape_of-out c = length-set (opened c) (length c.args.name.now + 1) quote ∙ as_long c
+shape_of-out c =
+    length-set (opened c.args.out.now c.put_bytes.new.out) (length c.args.name.now + 1) quote
+    ∙ stored-lent-same c.args.out.now c.put_bytes.new.out quote 0 c.put_bytes.auto.out
 
 pub returns : goal.returns
 unfolding quoted
@@ -48,9 +44,9 @@ returns c =
     let name = c.put_bytes in
     let long = length-quoted s in
     let fits = c.if-out-n.false in
-    let stands : opened c ≡ front (quote ∷ s) old = stored-lent old name.new.out quote 0 [] s old refl (omega arith) (front-none old) name.ensures.output in
+    let stands : opened old name.new.out ≡ front (quote ∷ s) old = stored-lent old name.new.out quote 0 [] s old refl (omega arith) (front-none old) name.ensures.output in
     written (quoted s) (length s + 2) old _ (omega (arith, long, fits)) (omega (arith, long))
-    (stored-after (quote ∷ s) old (opened c) quote (length s + 1) (omega arith) (omega (arith, fits)) stands)
+    (stored-after (quote ∷ s) old (opened old name.new.out) quote (length s + 1) (omega arith) (omega (arith, fits)) stands)
 
 pub slice_bounds-put_bytes-count : goal.slice_bounds-put_bytes-count
 slice_bounds-put_bytes-count c = simp length-set (search rules)
