@@ -15,13 +15,11 @@ use Rattle.answers.proofs.say_frames.Goals as goal
 
 pub slice_bounds-put_text-end : goal.slice_bounds-put_text-end
 slice_bounds-put_text-end c =
-    
     let write-frames = c.write_frames in
     omega (arith, rw c.in-Length.is at write-frames.ensures.bounds)
 
 pub returns-in-Length : goal.returns-in-Length
 returns-in-Length c =
-    
     let args = c.args in
     let cut = c.write_frames in
     let put = c.put_number_and_bytes-n in
@@ -33,7 +31,6 @@ returns-in-Length c =
 
 pub returns-in-Refused : goal.returns-in-Refused
 returns-in-Refused c =
-    
     let args = c.args in
     let cut = c.write_frames in
     let put = c.put_number_and_bytes in

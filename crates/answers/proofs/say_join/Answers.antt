@@ -16,7 +16,6 @@ use Rattle.answers.proofs.say_join.Goals as goal
 
 pub slice_bounds-put_text-end : goal.slice_bounds-put_text-end
 slice_bounds-put_text-end c =
-    
     let joined = c.reassemble_crypto in
     let args = c.args in
     let e : result c.in-End.end ≡ join_of args.frames.now args.buffer.now args.marks.now = rw c.in-End.is at joined.ensures.is in
@@ -25,7 +24,6 @@ slice_bounds-put_text-end c =
 
 pub returns-in-End : goal.returns-in-End
 returns-in-End c =
-    
     let args = c.args in
     let joined = c.reassemble_crypto in
     let put = c.put_number_and_two-n in
@@ -37,7 +35,6 @@ returns-in-End c =
 
 pub returns-in-Refused : goal.returns-in-Refused
 returns-in-Refused c =
-    
     let args = c.args in
     let joined = c.reassemble_crypto in
     let put = c.put_number_and_two in

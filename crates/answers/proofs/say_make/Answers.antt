@@ -15,13 +15,11 @@ use Rattle.answers.proofs.say_make.Goals as goal
 
 pub slice_bounds-put_text-end : goal.slice_bounds-put_text-end
 slice_bounds-put_text-end c =
-    
     let made = c.generate_client_hello in
     omega (arith, (rw c.in-Hello.is at made.ensures.bounds).0)
 
 pub returns-in-Hello : goal.returns-in-Hello
 returns-in-Hello c =
-    
     let args = c.args in
     let made = c.generate_client_hello in
     let put = c.put_two_numbers_and_bytes-n in
@@ -35,7 +33,6 @@ returns-in-Hello c =
 
 pub returns-in-Refused : goal.returns-in-Refused
 returns-in-Refused c =
-    
     let args = c.args in
     let made = c.generate_client_hello in
     let put = c.put_number_and_bytes in

@@ -28,7 +28,6 @@ returns-in-Record c =
 
 pub returns-in-End : goal.returns-in-End
 returns-in-End c =
-    
     let next-record = c.next_record in
     let args = c.args in
     let put = c.put_text-in-End in

@@ -13,7 +13,6 @@ use Rattle.answers.proofs.say_write.Goals as goal
 
 pub returns-in-Bytes : goal.returns-in-Bytes
 returns-in-Bytes c =
-    
     let args = c.args in
     let write = c.write in
     let put = c.put_number_and_bytes in
@@ -22,7 +21,6 @@ returns-in-Bytes c =
 
 pub returns-in-Refused : goal.returns-in-Refused
 returns-in-Refused c =
-    
     let args = c.args in
     let write = c.write in
     let put = c.put_number_and_bytes-in-Refused in

@@ -27,8 +27,8 @@ not-before c =
     let args = c.args in
     let loop = c.loop-i in
     elim c.if-marks-k.branch [
-      then-marks-k+else-among w ↦ sym w.among.ensures ∙ w.if-among.false
-    | else-marks-k w ↦ unmarked-new loop.marks (take loop.i args.ids.now) (get_or args.ids.now loop.i 0) loop.invariant.2 w.if-marks-k.false
+      | then-marks-k+else-among w ↦ sym w.among.ensures ∙ w.if-among.false
+      | else-marks-k w ↦ unmarked-new loop.marks (take loop.i args.ids.now) (get_or args.ids.now loop.i 0) loop.invariant.2 w.if-marks-k.false
     ]
 
 pub loop-i-init : goal.loop-i-init

@@ -28,8 +28,8 @@ stored : (c : Joined-k-room) →
 stored c =
     let loop = c.loop-at in
     elim c.if-k-room.branch [
-      then-k-room w ↦ w.ids-is
-    | else-k-room w ↦ w.ids-is ∙ sym (set_out loop.ids loop.k c.in-Whole.id (omega (arith, w.if-k-room.false, loop.invariant.size)))
+      | then-k-room w ↦ w.ids-is
+      | else-k-room w ↦ w.ids-is ∙ sym (set_out loop.ids loop.k c.in-Whole.id (omega (arith, w.if-k-room.false, loop.invariant.size)))
     ]
 
 pub loop-at-init : goal.loop-at-init

@@ -38,8 +38,8 @@ loop-j-smaller c = omega (arith, c.requires.0)
 pub loop-j-preserved : goal.loop-j-preserved
 loop-j-preserved c =
     elim c.if-carried-here.branch [
-      then-carried-here w ↦ placing-as w.items-is w.carried-is (placing-goes-on c.loop-j.invariant (ext_type 0) c.loop-j-test.true w.if-carried-here.true)
-    | else-carried-here w ↦ placing-as w.items-is w.carried-is (placing-stays c.loop-j.invariant (ext_type 0) c.loop-j-test.true w.if-carried-here.false)
+      | then-carried-here w ↦ placing-as w.items-is w.carried-is (placing-goes-on c.loop-j.invariant (ext_type 0) c.loop-j-test.true w.if-carried-here.true)
+      | else-carried-here w ↦ placing-as w.items-is w.carried-is (placing-stays c.loop-j.invariant (ext_type 0) c.loop-j-test.true w.if-carried-here.false)
     ]
 
 pub offset_bounds-items-i : goal.offset_bounds-items-i
