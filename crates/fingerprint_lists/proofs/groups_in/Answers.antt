@@ -1,6 +1,6 @@
 -- The loop keeps `Filled`: the groups before place i stand in the array. Assumes nothing.
 use mathlib.Core.Path.{refl, sym, ap, ◌∙◌}
-use Prim.Native.Nat.{◌-◌, ◌*◌, ◌/◌, ◌≤◌, zero-le}
+use Prim.Native.Nat.{◌*◌, ◌/◌, ◌≤◌, zero-le}
 use mathlib.Core.List.{map}
 use lib.ListN.{length, length-map}
 use Rattle.wire.proofs.ListLaws.{length-part-to-end}

@@ -1,6 +1,5 @@
 -- The loop keeps `NamesWalked`, and `Filled`: the parts of the names that were read stand in the array. Assumes nothing.
-use Prim.Native.Nat.{◌+◌, ◌-◌, ◌<◌}
-use lib.ListN.{length}
+use Prim.Native.Nat.{◌+◌, ◌<◌}
 use Rattle.fingerprint_bodies.specs.Entries.{or_empty, all_entries}
 use Rattle.fingerprint_bodies.specs.Forms.{one_name}
 use Rattle.fingerprint_lists.specs.Arrays.{span, placed}

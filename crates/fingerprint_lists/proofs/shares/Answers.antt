@@ -1,5 +1,5 @@
 -- The loop keeps `SharesWalked`, and `Filled`: the groups of the shares that were read stand in the array. Assumes nothing.
-use Prim.Native.Nat.{◌+◌, ◌-◌, ◌≤◌, ◌<◌}
+use Prim.Native.Nat.{◌+◌, ◌≤◌, ◌<◌}
 use mathlib.Core.Path.{ap}
 use mathlib.Core.List.{map}
 use lib.ListN.{length, length-map}

@@ -1,6 +1,6 @@
 -- The loop keeps `Filled`: the words before place i stand in the array. Assumes nothing.
 use mathlib.Core.Path.{refl, sym}
-use Prim.Native.Nat.{◌-◌, ◌*◌, ◌/◌, ◌≤◌, zero-le}
+use Prim.Native.Nat.{◌*◌, ◌/◌, ◌≤◌, zero-le}
 use lib.ListN.{length}
 use Rattle.wire.proofs.ListLaws.{length-part-to-end}
 use Rattle.fingerprint_bodies.specs.Forms.{words_in}

@@ -1,7 +1,7 @@
 -- The loop keeps: the first i numbers are distinct, and each has its mark. Assumes nothing.
 use mathlib.Core.Path.{◌≡◌, refl, sym, ◌∙◌}
 use mathlib.Core.Bool.{true, false}
-use Prim.Native.Nat.{◌-◌, ◌%◌, ◌<◌, zero-le}
+use Prim.Native.Nat.{◌%◌, ◌<◌, zero-le}
 use lib.ListN.{length, take, get_or, replicate, length-set}
 use Rattle.wire.specs.Sums.{member}
 use Rattle.fingerprint_order.proofs.MemberLaws.{one_more, new-not}

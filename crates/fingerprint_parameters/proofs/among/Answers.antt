@@ -1,6 +1,5 @@
 -- The loop keeps: the id is among the first n exactly where it is from place i on. Assumes nothing.
 use mathlib.Core.Path.{sym, ◌∙◌}
-use Prim.Native.Nat.{◌-◌}
 use Rattle.fingerprint_parameters.proofs.MemberLaws.{among-here, among_next, among-end}
 use native.Mathlib.Omega.{arith}
 use Rattle.fingerprint_parameters.proofs.among.Goals as goal

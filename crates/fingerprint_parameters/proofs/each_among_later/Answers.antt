@@ -1,6 +1,6 @@
 -- The loop keeps: the ids are distinct exactly where those from the place on are. Assumes nothing.
 use mathlib.Core.Path.{◌≡◌, refl, sym, ◌∙◌}
-use Prim.Native.Nat.{◌+◌, ◌-◌, zero-le}
+use Prim.Native.Nat.{◌+◌, zero-le}
 use lib.ListN.{drop}
 use Rattle.wire.specs.Sums.{member}
 use Rattle.wire.proofs.ListLaws.{part_to_end}

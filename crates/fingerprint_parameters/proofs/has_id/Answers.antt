@@ -1,6 +1,6 @@
 -- The loop keeps: the id is among those of the body exactly where it is among those from the place on. Assumes nothing.
 use mathlib.Core.Path.{refl, sym, ◌∙◌}
-use Prim.Native.Nat.{◌-◌, zero-le}
+use Prim.Native.Nat.{zero-le}
 use Rattle.wire.proofs.SumLaws.{member-nil}
 use Rattle.fingerprint_order.proofs.MemberLaws.{member-first, member-later}
 use Rattle.fingerprint_parameters.proofs.ParameterLaws as laws

@@ -1,6 +1,5 @@
 -- The loop keeps `Reading`. A store past the end of the array would change nothing, so both branches store alike. Assumes nothing.
 use mathlib.Core.Path.{◌≡◌, sym, ◌∙◌}
-use Prim.Native.Nat.{◌-◌}
 use lib.ListN.{set}
 use lib.Seq.{set_out}
 use Rattle.fingerprint_parameters.proofs.ParameterLaws as laws

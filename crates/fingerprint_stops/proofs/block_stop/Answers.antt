@@ -1,5 +1,5 @@
 -- `block_stop` keeps the state `Stopping` from one extension to the next. Assumes nothing.
-use Prim.Native.Nat.{◌-◌, ◌<◌}
+use Prim.Native.Nat.{◌<◌}
 use mathlib.Core.Path.{subst}
 use native.Mathlib.Omega.{arith}
 use lib.ListN.{take, length-replicate}

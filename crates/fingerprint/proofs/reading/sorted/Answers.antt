@@ -1,4 +1,3 @@
-use Prim.Native.Nat.{◌-◌}
 use Rattle.fingerprint_lists.specs.Arrays.{ext_type}
 use Rattle.fingerprint.proofs.PlaceLaws.{placing-as, placing-stays, placing-goes-on, sorted-start, sorted-turn, sorted-next, sorted-types}
 use native.Mathlib.Omega.{arith}

@@ -1,6 +1,6 @@
 -- `among` compares with one known type after the other. Assumes nothing.
 use mathlib.Core.Path.{refl, sym, ◌∙◌}
-use Prim.Native.Nat.{◌-◌, zero-le}
+use Prim.Native.Nat.{zero-le}
 use Rattle.fingerprint_parameters.proofs.MemberLaws.{among-here, among_next, among-end}
 use borrow.Author.Rules.{rules}
 use native.Mathlib.Omega.{arith}

@@ -2,9 +2,9 @@
 use Prim.Native.Nat.{ℕ}
 use mathlib.Core.Path.{sym, ap}
 use Rattle.std.proofs.Common.{rules}
-use borrow.Author.Tests.{tests}
-use Rattle.fingerprint_bodies.specs.Body.{kind}
+use Rattle.fingerprint_bodies.specs.Body.{Kind, kind}
 use Rattle.fingerprint.specs.Code.{slot}
+use Rattle.fingerprint.proofs.KindLaws.{kind-other}
 use Rattle.fingerprint.proofs.walk.slot.Goals as goal
 
 pub returns-in-0 : goal.returns-in-0
@@ -36,5 +36,6 @@ unfolding kind
 returns-in-57 c = ap (λ (t : ℕ). slot (kind t)) (sym c.in-57.is)
 
 pub returns-in_default : goal.returns-in_default
-unfolding kind
-returns-in_default c = search (tests, rules)
+returns-in_default c =
+    ap (λ (k : Kind). slot k)
+    (sym (kind-other c.args.t (search rules) (search rules) (search rules) (search rules) (search rules) (search rules) (search rules)))

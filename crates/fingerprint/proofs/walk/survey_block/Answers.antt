@@ -1,5 +1,5 @@
 -- `survey_block` keeps the state `Walking` from one extension to the next. Assumes nothing.
-use Prim.Native.Nat.{ℕ, ◌-◌, ◌<◌}
+use Prim.Native.Nat.{ℕ, ◌<◌}
 use mathlib.Core.Path.{sym, ap, ◌∙◌, subst}
 use lib.ListN.{take}
 use Rattle.wire.specs.Answer.{refused}

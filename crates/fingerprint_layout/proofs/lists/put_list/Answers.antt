@@ -1,5 +1,5 @@
 -- The loop keeps `Standing`: the words before place i stand in the output. Assumes nothing.
-use Prim.Native.Nat.{◌+◌, ◌-◌, ◌*◌, zero-le}
+use Prim.Native.Nat.{◌+◌, ◌*◌, zero-le}
 use mathlib.Core.Path.{◌≡◌, refl, sym}
 use mathlib.Core.List.{◌∷◌}
 use lib.ListN.{drop}

@@ -1,5 +1,5 @@
 -- The loop keeps `NamesWalked`, and `Standing`: the ranges of the names that were read stand in the output. Assumes nothing.
-use Prim.Native.Nat.{◌+◌, ◌-◌, ◌*◌, ◌≤◌}
+use Prim.Native.Nat.{◌+◌, ◌*◌, ◌≤◌}
 use mathlib.Core.Path.{◌∙◌}
 use lib.ListN.{length, length-map}
 use Rattle.fingerprint_bodies.specs.Entries.{or_empty, all_entries}

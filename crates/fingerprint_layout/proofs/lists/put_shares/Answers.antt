@@ -1,5 +1,5 @@
 -- The loop keeps `SharesWalked`, and `Standing`: the groups of the shares that were read stand in the output. Assumes nothing.
-use Prim.Native.Nat.{◌+◌, ◌-◌, ◌*◌, ◌≤◌}
+use Prim.Native.Nat.{◌+◌, ◌*◌, ◌≤◌}
 use lib.ListN.{length}
 use Rattle.fingerprint_lists.proofs.WalkLaws.{share_groups, ShareTurn, shares-start, groups-few, groups-start, groups-end, share-turn, share-cut}
 use Rattle.fingerprint_layout.proofs.PieceLaws.{stand-start, stand-room, stand-fits, stand-next, stand-count, stand-end, numbers-are, length-little}

@@ -1,5 +1,4 @@
 -- The loop keeps `Standing`: the ids before place i stand in the output. Assumes nothing.
-use Prim.Native.Nat.{◌-◌}
 use mathlib.Core.Path.{refl}
 use native.Mathlib.Omega.{arith}
 use lib.ListN.{drop_of_length-le}
