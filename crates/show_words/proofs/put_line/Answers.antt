@@ -7,10 +7,6 @@ use Rattle.show_words.proofs.LineLaws.{marks-any, least-bytes, line_plain, line_
 use native.Mathlib.Omega.{arith}
 use Rattle.show_words.proofs.put_line.Goals as goal
 
--- ODD tie
-add-result : tie.Need-overflow-add-result
-add-result c = omega (arith, c.before.before.before.before.before.before.before.before.before.before.before.before.before.before.before.before.before.before.before.before.before.before.well-formed.0)
-
 pub returns-then-marked : goal.returns-then-marked
 returns-then-marked c =
     let args = c.args in

@@ -1,8 +1,8 @@
 -- A first byte that is not 01; else what the row says. Assumes nothing.
 use mathlib.Core.Path.{◌∙◌}
-use mathlib.Core.Logic.{⊎_elim}
 use Rattle.show_lines.proofs.CodeLaws.{due-none, due-hello, due-other}
 use Rattle.show_lines.proofs.cursor.due.Goals as goal
+use Rattle.show_lines.proofs.cursor.due.Goals.{then-c-eq-MSG_TYPE+else-hello-at-ne1, else-c-eq-MSG_TYPE}
 
 pub returns-then-hello-at-ne1 : goal.returns-then-hello-at-ne1
 returns-then-hello-at-ne1 c =
@@ -14,4 +14,7 @@ returns c =
     let args = c.args in
     let h = args.hello.now in
     c.column.ensures
-    ∙ ⊎_elim (λ j. due-hello h args.c j.0.taken j.2.left) (λ j. due-other h args.c j.left) c.if-c-eq-MSG_TYPE.branch
+    ∙ elim c.if-c-eq-MSG_TYPE.branch [
+      then-c-eq-MSG_TYPE+else-hello-at-ne1 w ↦ due-hello h args.c w.if-c-eq-MSG_TYPE.true w.if-hello-at-ne1.false |
+      else-c-eq-MSG_TYPE w ↦ due-other h args.c w.if-c-eq-MSG_TYPE.false
+    ]

@@ -1,9 +1,9 @@
 -- An extension by its type; suites by their length; any other by its row. Assumes nothing.
 use mathlib.Core.Path.{◌∙◌, ap}
-use mathlib.Core.Logic.{⊎_elim}
 use Rattle.show_lines.specs.Grammar.{body_line}
 use Rattle.show_lines.proofs.CodeLaws.{type-there, inside-extension, inside-suites, inside-whole, inside-other}
 use Rattle.show_lines.proofs.cursor.inside.Goals as goal
+use Rattle.show_lines.proofs.cursor.inside.Goals.{then-c-eq-SUITES+else-hello-line, else-c-eq-SUITES}
 
 pub be16-requires : goal.be16-requires
 be16-requires c =
@@ -30,5 +30,7 @@ returns c =
     let args = c.args in
     let h = args.hello.now in
     c.column.ensures
-    ∙ ⊎_elim (λ j. inside-whole h args.c args.line j.0.taken j.3.left)
-    (λ j. inside-other h args.c args.line c.if-c-eq-EXTENSION.false j.left) c.if-c-eq-SUITES.branch
+    ∙ elim c.if-c-eq-SUITES.branch [
+      then-c-eq-SUITES+else-hello-line w ↦ inside-whole h args.c args.line w.if-c-eq-SUITES.true w.if-hello-line.false |
+      else-c-eq-SUITES w ↦ inside-other h args.c args.line c.if-c-eq-EXTENSION.false w.if-c-eq-SUITES.false
+    ]

@@ -1,11 +1,11 @@
 -- What stands inside, or what follows, as in `next`. Assumes nothing.
 use native.Mathlib.Omega.{arith}
 use mathlib.Core.Path.{◌∙◌, sym}
-use mathlib.Core.Logic.{⊎_elim}
 use lib.ListN.{length}
 use Rattle.show_lines.proofs.PartLaws.{part-within}
 use Rattle.show_lines.proofs.CodeLaws.{next-inside, next-cut, next-plain}
 use Rattle.show_lines.proofs.cursor.next.Goals as goal
+use Rattle.show_lines.proofs.cursor.next.Goals.{then-column-eq-OPENS+else-line-gt0, else-column-eq-OPENS}
 
 pub inside-requires : goal.inside-requires
 inside-requires c =
@@ -36,5 +36,8 @@ returns c =
     let h = args.hello.now in
     let form = c.column.ensures in
     let to = rw c.due.ensures at c.settle-2.ensures in
-    ⊎_elim (λ j. next-cut h args.c args.line pre.1 pre.4 (sym form ∙ j.0.taken) j.2.left _ to)
-    (λ j. next-plain h args.c args.line pre.1 pre.4 (λ q. j.left (form ∙ q)) _ to) c.if-column-eq-OPENS.branch
+    elim c.if-column-eq-OPENS.branch [
+      then-column-eq-OPENS+else-line-gt0 w ↦
+        next-cut h args.c args.line pre.1 pre.4 (sym form ∙ w.if-column-eq-OPENS.true) w.if-line-gt0.false _ to |
+      else-column-eq-OPENS w ↦ next-plain h args.c args.line pre.1 pre.4 (λ q. w.if-column-eq-OPENS.false (form ∙ q)) _ to
+    ]

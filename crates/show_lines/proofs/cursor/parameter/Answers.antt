@@ -22,13 +22,6 @@ length_found c =
     let args = c.args in
     rw (part_to_end args.rest.now c.in-Value.id.width, c.in-Value-read.is) at c.read-2.ensures
 
-head : (c : In-Value-read) →
-    let args = c.args in
-    c.in-Value.id.width + c.in-Value-read.length.width ≤ length args.rest.now
-head c =
-    let args = c.args in
-    head-within args.rest.now _ (id-found c.before.before.before.before.before) _ (length_found c)
-
 pub returns-in_default : goal.returns-in_default
 returns-in_default c =
     let args = c.args in
@@ -48,10 +41,16 @@ returns-in_default-read c =
     no_length args.at s _ (id-found (goal.at.returns-in_default-read c).In-Value) _ f
 
 pub overflow_add-w : goal.overflow_add-w
-overflow_add-w c = omega (arith, head (goal.at.overflow_add-w c).In-Value-read)
+overflow_add-w c =
+    let at-id = (goal.at.overflow_add-w c).In-Value in
+    let at_length = (goal.at.overflow_add-w c).In-Value-read in
+    omega (arith, head-within c.args.rest.now _ (id-found at-id) _ (length_found at_length))
 
 pub vector-requires : goal.vector-requires
-vector-requires c = (head (goal.at.vector-requires c).In-Value-read, search rules)
+vector-requires c =
+    let at-id = (goal.at.vector-requires c).In-Value in
+    let at_length = (goal.at.vector-requires c).In-Value-read in
+    (head-within c.args.rest.now _ (id-found at-id) _ (length_found at_length), search rules)
 
 pub returns : goal.returns
 returns c =

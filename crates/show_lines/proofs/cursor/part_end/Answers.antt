@@ -1,4 +1,5 @@
 -- The choice by part. Assumes nothing.
+use native.Mathlib.Omega.{arith}
 use mathlib.Core.Path.{sym, ◌∙◌}
 use Rattle.show_lines.specs.Lines.{part_end}
 use Rattle.show_lines.proofs.PartLaws.{no_part, in-suites, in_block, in_body, in_list, in-none}
@@ -23,5 +24,4 @@ returns-in-4 c = sym (in_list _ _ _ _ _ _ (sym c.column.ensures ∙ c.in-4.is))
 pub returns-in_default : goal.returns-in_default
 unfolding part_end
 returns-in_default c =
-    let ne = c.in_default.in_default-own.rest in
-    sym (in-none _ _ _ _ _ _ (no_part _ _ c.column.ensures ne.0.0.0.1 ne.0.0.1 ne.0.1 ne.1))
+    sym (in-none _ _ _ _ _ _ (no_part _ _ c.column.ensures (omega arith) (omega arith) (omega arith) (omega arith)))

@@ -1,4 +1,5 @@
 -- What is due, where its part goes on, else what stands after that part. Assumes nothing.
+use native.Mathlib.Omega.{arith}
 use mathlib.Core.Path.{◌≡◌, sym, ◌∙◌}
 use borrow.Author.Tests.{lt-ltb, le-ltb}
 use Rattle.show_lines.specs.Lines.{part_of, settled}
@@ -20,9 +21,7 @@ list : (c : In-4) → part_of c.args.c.what ≡ 4
 list c = sym c.column.ensures ∙ c.in-4.is
 
 hello : (c : In_default) → NoPart (part_of c.args.c.what)
-hello c =
-    let ne = c.in_default.in_default-own.rest in
-    no_part _ _ c.column.ensures ne.0.0.0.1 ne.0.0.1 ne.0.1 ne.1
+hello c = no_part _ _ c.column.ensures (omega arith) (omega arith) (omega arith) (omega arith)
 
 pub returns-then-c : goal.returns-then-c
 unfolding settled
