@@ -37,7 +37,7 @@ returns c =
     let form = c.column.ensures in
     let to = rw c.due.ensures at c.settle-2.ensures in
     elim c.if-column-eq-OPENS.branch [
-      then-column-eq-OPENS+else-line-gt0 w ↦
-        next-cut h args.c args.line pre.1 pre.4 (sym form ∙ w.if-column-eq-OPENS.true) w.if-line-gt0.false _ to |
-      else-column-eq-OPENS w ↦ next-plain h args.c args.line pre.1 pre.4 (λ q. w.if-column-eq-OPENS.false (form ∙ q)) _ to
+      | then-column-eq-OPENS+else-line-gt0 w ↦
+          next-cut h args.c args.line pre.1 pre.4 (sym form ∙ w.if-column-eq-OPENS.true) w.if-line-gt0.false _ to
+      | else-column-eq-OPENS w ↦ next-plain h args.c args.line pre.1 pre.4 (λ q. w.if-column-eq-OPENS.false (form ∙ q)) _ to
     ]
