@@ -1,9 +1,8 @@
 -- What answers of the code say together: of one test after the other, and of `same` of two parts. Assumes nothing.
 use Prim.Native.Nat.{ℕ}
 use mathlib.Core.Path.{◌≡◌, sym, ◌∙◌}
-use mathlib.Core.Bool.{Bool, true, false, not, ◌&&◌, false≢true}
+use mathlib.Core.Bool.{Bool, true, false, ◌&&◌, false≢true}
 use mathlib.Core.List.{List}
-use borrow.Author.Tests.{not-true, not-false}
 use Rattle.alike.specs.Alike.{same_numbers}
 use Rattle.alike.proofs.SameLaws.{equal_as, numbers-tests}
 
