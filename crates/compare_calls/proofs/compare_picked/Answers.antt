@@ -26,5 +26,5 @@ returns c =
     let name = c.wrapping_add_u64-sum in
     let id = c.wrapping_add_u64 in
     all-picked parsed.result args.place suite.result extension.result group.result share.result algorithm.result version.result name.result id.result
-    if1.false suite.ensures extension.ensures group.ensures share.ensures algorithm.ensures version.ensures name.ensures id.ensures
+    if1.false suite.ensures extension.ensures group.ensures share.ensures algorithm.ensures version.ensures name.ensures.value id.ensures.value
     ∙ ap (λ (p : Fingerprint). picked_of p args.place) parsed.ensures

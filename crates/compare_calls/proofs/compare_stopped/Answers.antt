@@ -13,7 +13,7 @@ bounds : (c : In-At) →
     StopBounds (length h) (stop.At c.in-At.number c.in-At.place)
 bounds c =
     let h = c.args.hello.now in
-    subst (λ (x : Stop). StopBounds (length h) x) c.in-At.is c.stopped_at.ensures.1
+    subst (λ (x : Stop). StopBounds (length h) x) c.in-At.is c.stopped_at.ensures.stop_bounds
 
 pub overflow_mul-result : goal.overflow_mul-result
 overflow_mul-result c = omega (arith, (bounds c).0.1)
@@ -22,7 +22,7 @@ pub overflow_add-result : goal.overflow_add-result
 overflow_add-result c = omega (arith, (bounds c).0.1, (bounds c).1, c.well_formed.0.1)
 
 pub returns-in-Nowhere : goal.returns-in-Nowhere
-returns-in-Nowhere c = ap coded_stop (rw c.in-Nowhere.is at c.stopped_at.ensures.0)
+returns-in-Nowhere c = ap coded_stop (rw c.in-Nowhere.is at c.stopped_at.ensures.result_value)
 
 pub returns-in-At : goal.returns-in-At
-returns-in-At c = ap coded_stop (rw c.in-At.is at c.stopped_at.ensures.0)
+returns-in-At c = ap coded_stop (rw c.in-At.is at c.stopped_at.ensures.result_value)

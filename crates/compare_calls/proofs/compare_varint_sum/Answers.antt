@@ -1,5 +1,5 @@
 -- The loop keeps `Summing`: what is still to be read gives the rest of the sum. Assumes nothing.
-use Rattle.std.proofs.Common.{◌+◌, ◌-◌, ◌≤◌, length, drop, sym, arith, length-drop}
+use Rattle.std.proofs.Common.{◌+◌, ◌≤◌, length, drop, sym, arith, length-drop}
 use Rattle.wire.proofs.ListLaws.{part_to_end}
 use Rattle.compare_calls.proofs.SumLaws.{starts, goes_on, stops, ends}
 use Rattle.varint.specs.Varint.{Found}
@@ -29,9 +29,6 @@ bounds c =
 pub loop-at-init : goal.loop-at-init
 loop-at-init c = starts c.args.input.now
 
-pub enum_known-x : goal.enum_known-x
-enum_known-x c = omega (arith, c.in-Value.in-Value-own.keys1)
-
 pub overflow_add-at : goal.overflow_add-at
 overflow_add-at c = omega (arith, bounds (goal.at.overflow_add-at c).In-Value)
 
@@ -46,10 +43,7 @@ loop-at-preserved c =
     let loop-test = c.loop-at-test in
     let p = (goal.at.loop-at-preserved c).In-Value in
     let b = bounds p in
-    goes_on args.input.now loop.at loop.sum loop.invariant c.in-Value.x wrapping-add-u64.result loop-test.true (sym (seen p).is) wrapping-add-u64.ensures b.0 b.1
-
-pub enum_told-1 : goal.enum_told-1
-enum_told-1 c = omega (arith, c.in-Refused.in-Refused-own.keys2)
+    goes_on args.input.now loop.at loop.sum loop.invariant c.in-Value.x wrapping-add-u64.result loop-test.true (sym (seen p).is) wrapping-add-u64.ensures.value b.0 b.1
 
 pub returns-in-Refused : goal.returns-in-Refused
 returns-in-Refused c =

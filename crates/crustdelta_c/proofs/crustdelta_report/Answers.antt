@@ -43,7 +43,6 @@ returns-then-out-lt1368 c =
 pub put_report-requires : goal.put_report-requires
 put_report-requires c =
     let args = c.args in
-    let shared-slice-known = c.shared_slice_known-1 in
     let told = (goal.at.put_report-requires c).In-Fields in
     let head = head told in
     let s = c.survey_block-found.ensures.accepted c.if-number-ne0.false in
