@@ -9,11 +9,7 @@ use Rattle.script_writing.specs.Shown.{shown_text}
 use Rattle.script_writing.proofs.AnswerLaws.{written_one}
 use Rattle.answers.specs.Answers.{record_word, next_word, end_word, refused_word}
 use Rattle.answers.proofs.AnswerLaws.{hands-nothing, hands-refused, hands-back}
-use borrow.Author.Rules.{rules}
 use Rattle.answers.proofs.say_split.Goals as goal
-
-pub enum_told-1 : goal.enum_told-1
-enum_told-1 c = search rules
 
 pub returns-in-Record : goal.returns-in-Record
 returns-in-Record c =
@@ -31,7 +27,7 @@ returns-in-End c =
     let next-record = c.next_record in
     let args = c.args in
     let put = c.put_text-in-End in
-    let e : result end ≡ record_at args.blob.now args.place = rw enum_told.given.1 at next-record.ensures.is in
+    let e : result end ≡ record_at args.blob.now args.place = rw c.in-End.is at next-record.ensures.is in
     rw (← e) (hands-nothing (end_word ∷ []) put.result args.out.now put.new.out (written_one end_word put.result args.out.now put.new.out put.ensures) args.last.now)
 
 pub returns-in-Refused : goal.returns-in-Refused

@@ -10,4 +10,4 @@ returns c =
     let verdict = c.put_verdict-n in
     let lines = c.put_lines in
     listing-is args.frames.now (stop_from args.number args.place) verdict.result lines.result _ args.out.now verdict.new.out
-    lines.new.out verdict.auto.0 verdict.ensures refl lines.ensures
+    lines.new.out verdict.auto.out verdict.ensures refl lines.ensures

@@ -1,7 +1,6 @@
 -- `put_lines` meets its contract: the lines so far stand in the output, and the others begin where they end. Assumes nothing.
 use Prim.Native.Nat.{◌-◌, zero-le}
 use mathlib.Core.Path.{refl, ap, ◌∙◌}
-use mathlib.Core.Logic.{⊎_elim}
 use native.Mathlib.Omega.{arith}
 use Rattle.wire.proofs.ListLaws.{part_to_end, length-part-to-end}
 use Rattle.show_marks.specs.Text.{stop_from}
@@ -9,6 +8,7 @@ use Rattle.show_frames.specs.Frames.{line_size}
 use Rattle.show_frames.proofs.TurnLaws.{going-none, going_more, ended-whole, ended-short}
 use borrow.Author.Rules.{rules}
 use Rattle.show_frames.proofs.put_lines.Goals as goal
+use Rattle.show_frames.proofs.put_lines.Goals.{else-loop-at-test, then-loop-at-test+then-out-used-lt-ROOM}
 
 pub loop-at-init : goal.loop-at-init
 loop-at-init c =
@@ -45,7 +45,10 @@ returns c =
     let stop = stop_from args.number args.place in
     let l = c.loop-at in
     let w = c.put_end in
-    ⊎_elim
-    (λ p. ended-whole h stop l.at l.used w.result _ args.out.now l.out w.new.out l.invariant.3 refl w.ensures p.left)
-    (λ q. ended-short h stop l.at l.used w.result _ args.out.now l.out w.new.out l.invariant.3 refl w.ensures l.invariant.2 l.invariant.1 q.1.taken)
-    c.loop-at-test.branch
+    elim c.loop-at-test.branch [
+      else-loop-at-test p ↦
+        ended-whole h stop l.at l.used w.result _ args.out.now l.out w.new.out l.invariant.3 refl w.ensures p.loop-at-test.false |
+      then-loop-at-test+then-out-used-lt-ROOM q ↦
+        ended-short h stop l.at l.used w.result _ args.out.now l.out w.new.out l.invariant.3 refl w.ensures l.invariant.2 l.invariant.1
+            q.if-out-used-lt-ROOM.true
+    ]
