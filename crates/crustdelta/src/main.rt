@@ -15,6 +15,11 @@ const PATH: usize = 4096;
 
 const LINE: usize = 65536;
 
+// The system's numbers of two errors.
+const EINVAL: i32 = 22;
+
+const ENAMETOOLONG: i32 = 36;
+
 fn line_room() -> [u8; LINE] {
     [0u8; LINE]
 }
@@ -29,11 +34,11 @@ fn arg_count(rt: &impl Env) -> usize {
     usize::MAX
 }
 
-// The system's error for an argument that is missing or too long.
+// The error for an argument that is missing or too long.
 fn error_of(e: FillError) -> io::Error {
     match e {
-        FillError::NotPresent => io::Error::from_raw_os_error(22),
-        FillError::TooLong => io::Error::from_raw_os_error(36),
+        FillError::NotPresent => io::Error::from_raw_os_error(EINVAL),
+        FillError::TooLong => io::Error::from_raw_os_error(ENAMETOOLONG),
     }
 }
 
