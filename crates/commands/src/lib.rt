@@ -1,5 +1,5 @@
 // The commands of a script. The first word of a line says which command it is, and so which operands it has; they are read, and the
-// call that answers the command is made.
+// call that answers the command is made. The handle `rt` is for the files among the operands.
 #![tactic(auto)]
 
 ghost use Rattle.std.specs.Prelude.{length};
@@ -13,9 +13,10 @@ use operands::kinds::{
 use operands::{Reading, inputs_room, read_buffer, read_inputs, read_value, room};
 use script::reading::Number;
 use script::words::{has_operands, word_at};
+use std::rt::Files;
 
 // Answers a line. `kept` is what `_` stands for; what the answer hands back is put at the front of `last`.
-pub fn command(line: &[u8], kept: &[u8], last: &mut [u8], out: &mut [u8]) -> Said
+pub fn command(rt: &impl Files, line: &[u8], kept: &[u8], last: &mut [u8], out: &mut [u8]) -> Said
     ensures { Fits (length last.old) (length out.old) result }
 {
     let command = number_of(word_at(line, 0));
@@ -26,13 +27,14 @@ pub fn command(line: &[u8], kept: &[u8], last: &mut [u8], out: &mut [u8]) -> Sai
         return Said::Error(Fault::Count);
     }
     match read_value(line, command) {
-        Number::Value(value) => read_bytes(line, command, value, kept, last, out),
+        Number::Value(value) => read_bytes(rt, line, command, value, kept, last, out),
         Number::Malformed => Said::Error(Fault::NoNumber),
     }
 }
 
 // Reads the bytes that the command reads.
 fn read_bytes(
+    rt: &impl Files,
     line: &[u8],
     command: usize,
     value: u64,
@@ -43,7 +45,7 @@ fn read_bytes(
     ensures { Fits (length last.old) (length out.old) result }
 {
     let mut bytes = inputs_room();
-    let read = read_inputs(line, command, kept, &mut bytes);
+    let read = read_inputs(rt, line, command, kept, &mut bytes);
     let reading = read.reading;
     if let Reading::Failed(fault) = reading {
         return Said::Error(fault);
@@ -53,6 +55,7 @@ fn read_bytes(
     let c = read.third;
     let all: &[u8] = &bytes;
     read_buffers(
+        rt,
         line,
         command,
         value,
@@ -67,6 +70,7 @@ fn read_bytes(
 
 // Reads the buffers that the command fills.
 fn read_buffers<'a>(
+    rt: &impl Files,
     line: &[u8],
     command: usize,
     value: u64,
@@ -80,13 +84,13 @@ fn read_buffers<'a>(
     ensures { Fits (length last.old) (length out.old) result }
 {
     let mut buffer = room();
-    let one = read_buffer(line, command, 0, kept, &mut buffer);
+    let one = read_buffer(rt, line, command, 0, kept, &mut buffer);
     let reading = one.reading;
     if let Reading::Failed(fault) = reading {
         return Said::Error(fault);
     }
     let mut marks = room();
-    let two = read_buffer(line, command, 1, kept, &mut marks);
+    let two = read_buffer(rt, line, command, 1, kept, &mut marks);
     let reading2 = two.reading;
     if let Reading::Failed(fault) = reading2 {
         return Said::Error(fault);

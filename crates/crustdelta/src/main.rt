@@ -4,74 +4,119 @@
 
 ghost use Rattle.std.specs.Prelude.{◌≤◌, length};
 
-use libc::STDIN_FILENO;
+use runner::failures::fail;
 use script_writing::texts::put_text;
+use std::env::FillError;
+use std::rt::{Env, Files};
+use std::{fs, io, str};
 
-// The script's descriptor, or -1 after saying on standard error what is wrong.
-fn open_script() -> i32 {
-    if os::arg_count() < 2 {
-        return STDIN_FILENO;
+// What a path may have, and the line that the arguments are.
+const PATH: usize = 4096;
+
+const LINE: usize = 65536;
+
+// The system's numbers of two errors.
+const EINVAL: i32 = 22;
+
+const ENAMETOOLONG: i32 = 36;
+
+fn line_room() -> [u8; LINE] {
+    [0u8; LINE]
+}
+
+// How many arguments there are, the program's name among them.
+fn arg_count(rt: &impl Env) -> usize {
+    for i in 0..usize::MAX {
+        if matches!(rt.arg(i, &mut []), Err(FillError::NotPresent)) {
+            return i;
+        }
     }
-    let mut path = io::buffer();
-    let n = os::arg(1, &mut path);
-    if os::errno() != 0 {
-        os::fail(b"crustdelta: the script's path");
-        return -1;
+    usize::MAX
+}
+
+// The error for an argument that is missing or too long.
+fn error_of(e: FillError) -> io::Error {
+    match e {
+        FillError::NotPresent => io::Error::from_raw_os_error(EINVAL),
+        FillError::TooLong => io::Error::from_raw_os_error(ENAMETOOLONG),
     }
-    let fd = os::open_read(&path[..n]);
-    if fd < 0 {
-        os::fail(&path[..n]);
+}
+
+// Opens the script that the first argument names. Where it cannot, standard error says what is wrong. A path is UTF-8 text.
+fn open_script<R: Files + Env + Eprint>(rt: &R) -> Option<R::File> {
+    let mut path = [0u8; PATH];
+    let n = match rt.arg(1, &mut path) {
+        Ok(n) => n,
+        Err(e) => {
+            fail(rt, "crustdelta: the script's path", &error_of(e));
+            return None;
+        }
+    };
+    let Ok(path) = str::from_utf8(&path[..n]) else {
+        let e = io::Error::from(io::ErrorKind::InvalidFilename);
+        fail(rt, "crustdelta: the script's path", &e);
+        return None;
+    };
+    match fs::open(rt, path) {
+        Ok(script) => Some(script),
+        Err(e) => {
+            fail(rt, path, &e);
+            None
+        }
     }
-    fd
 }
 
 // Puts an argument at the buffer's front, and gives how many bytes it has. What does not fit is said on standard error.
-fn put_argument(i: usize, out: &mut [u8]) -> usize
+fn put_argument(rt: &(impl Env + Eprint), i: usize, out: &mut [u8]) -> usize
     ensures { result ≤ length out.old }
 {
-    let n = os::arg(i, out);
-    if os::errno() != 0 {
-        os::fail(b"crustdelta: an argument");
+    match rt.arg(i, out) {
+        Ok(n) => n,
+        Err(e) => {
+            fail(rt, "crustdelta: an argument", &error_of(e));
+            0
+        }
     }
-    n
 }
 
 // Puts a space and an argument.
-fn put_operand(i: usize, out: &mut [u8]) -> usize
+fn put_operand(rt: &(impl Env + Eprint), i: usize, out: &mut [u8]) -> usize
     ensures { result ≤ length out.old }
 {
     let n = put_text(out, b" ");
-    n + put_argument(i, &mut out[n..])
+    n + put_argument(rt, i, &mut out[n..])
 }
 
 // Puts the line that the arguments are.
-fn put_line(out: &mut [u8]) -> usize
+fn put_line(rt: &(impl Env + Eprint), out: &mut [u8]) -> usize
     ensures { result ≤ length out.old }
 {
-    let count = os::arg_count();
-    let mut n = put_argument(1, out);
+    let count = arg_count(rt);
+    let mut n = put_argument(rt, 1, out);
     let mut i: usize = 2;
     while i < count {
-        n = n + put_operand(i, &mut out[n..]);
+        n = n + put_operand(rt, i, &mut out[n..]);
         i = i + 1;
     }
     n
 }
 
-fn answer_arguments(line: &mut [u8]) {
-    let n = put_line(line);
-    runner::run_line(&line[0..n]);
+fn answer_arguments(rt: &(impl Files + Env + Print + Eprint), line: &mut [u8]) -> io::Result<()> {
+    let n = put_line(rt, line);
+    runner::run_line(rt, &line[0..n])
 }
 
-fn main() {
-    if 2 < os::arg_count() {
-        let mut line = io::large_buffer();
-        answer_arguments(&mut line);
-        return;
+fn main(rt: HostRuntime) -> io::Result<()> {
+    let count = arg_count(&rt);
+    if 2 < count {
+        let mut line = line_room();
+        return answer_arguments(&rt, &mut line);
     }
-    let fd = open_script();
-    if fd < 0 {
-        return;
+    if count < 2 {
+        return runner::run(&rt, &mut rt.stdin(), true);
     }
-    runner::run(fd, true);
+    match open_script(&rt) {
+        Some(mut script) => runner::run(&rt, &mut script, true),
+        None => Ok(()),
+    }
 }

@@ -4,6 +4,7 @@ ghost use Rattle.std.specs.Prelude.{◌≡◌, ◌≤◌, length};
 use crate::files::read_file;
 use answers::Fault;
 use script::reading::{Piece, piece_end, read_piece};
+use std::rt::Files;
 
 // Whether an operand was read; where not, why.
 #[derive(Drop)]
@@ -38,14 +39,14 @@ pub fn failed(fault: Fault) -> Operand
 }
 
 // Reads an operand: pieces joined by `+`, of which `_` stands for `kept`.
-pub fn read_operand(text: &[u8], kept: &[u8], out: &mut [u8]) -> Operand
+pub fn read_operand(rt: &impl Files, text: &[u8], kept: &[u8], out: &mut [u8]) -> Operand
     ensures { result.count ≤ length out.old }
 {
     let mut at: usize = 0;
     let mut n: usize = 0;
     loop {
         let end = piece_end(text, at);
-        let one = read_one(&text[at..end], kept, &mut out[n..]);
+        let one = read_one(rt, &text[at..end], kept, &mut out[n..]);
         let reading = one.reading;
         if let Reading::Failed(fault) = reading {
             return failed(fault);
@@ -61,7 +62,7 @@ pub fn read_operand(text: &[u8], kept: &[u8], out: &mut [u8]) -> Operand
     }
 }
 
-fn read_one(piece: &[u8], kept: &[u8], out: &mut [u8]) -> Operand
+fn read_one(rt: &impl Files, piece: &[u8], kept: &[u8], out: &mut [u8]) -> Operand
     ensures { result.count ≤ length out.old }
 {
     if piece.len() == 0 {
@@ -69,7 +70,7 @@ fn read_one(piece: &[u8], kept: &[u8], out: &mut [u8]) -> Operand
     }
     match read_piece(piece, kept, out) {
         Piece::Bytes(n) => whole(n),
-        Piece::File => read_file(&piece[1..], out),
+        Piece::File => read_file(rt, &piece[1..], out),
         Piece::Malformed => failed(Fault::NoPiece),
         Piece::TooLong => failed(Fault::LongOperand),
     }

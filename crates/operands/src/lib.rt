@@ -13,6 +13,7 @@ use bytes::{read_operand, whole};
 use kinds::{MAKE, buffers_of, inputs_of, numbers_of};
 use script::reading::{Number, read_number};
 use script::words::word_at;
+use std::rt::Files;
 
 // The script language allows an operand of 131,072 bytes, and no command reads more than three.
 const OPERAND: usize = 131072;
@@ -115,7 +116,13 @@ fn room_end(start: usize, most: usize) -> usize
 }
 
 // Reads the bytes that a command reads; `_` stands for `kept`.
-pub fn read_inputs(line: &[u8], command: usize, kept: &[u8], out: &mut [u8]) -> Inputs
+pub fn read_inputs(
+    rt: &impl Files,
+    line: &[u8],
+    command: usize,
+    kept: &[u8],
+    out: &mut [u8],
+) -> Inputs
     ensures { InOrder (length out.old) result }
 {
     let count = inputs_of(command);
@@ -125,7 +132,7 @@ pub fn read_inputs(line: &[u8], command: usize, kept: &[u8], out: &mut [u8]) -> 
     while i < count {
         let start = s.third;
         let end = room_end(start, out.len());
-        let one = read_operand(word_at(line, from + i), kept, &mut out[start..end]);
+        let one = read_operand(rt, word_at(line, from + i), kept, &mut out[start..end]);
         let reading = one.reading;
         if let Reading::Failed(fault) = reading {
             return no_inputs(Reading::Failed(fault));
@@ -137,12 +144,19 @@ pub fn read_inputs(line: &[u8], command: usize, kept: &[u8], out: &mut [u8]) -> 
 }
 
 // Reads a buffer that a command fills, the one that has i others before it; it is empty where the command fills no more than i.
-pub fn read_buffer(line: &[u8], command: usize, i: usize, kept: &[u8], out: &mut [u8]) -> Operand
+pub fn read_buffer(
+    rt: &impl Files,
+    line: &[u8],
+    command: usize,
+    i: usize,
+    kept: &[u8],
+    out: &mut [u8],
+) -> Operand
     ensures { result.count ≤ length out.old }
 {
     if buffers_of(command) <= i {
         return whole(0);
     }
     let place = 1 + numbers_of(command) + inputs_of(command) + i;
-    read_operand(word_at(line, place), kept, out)
+    read_operand(rt, word_at(line, place), kept, out)
 }

@@ -1,18 +1,23 @@
-// Runs bench scripts: takes lines from a descriptor and answers each on standard output. The work on text is in the crate `script`,
-// each command with its operands in `commands`, its answer in `answers`; here are the lines and the calls of the system.
+// Runs bench scripts: takes lines from a reader and answers each on standard output. The work on text is in the crate `script`,
+// each command with its operands in `commands`, its answer in `answers`; here are the lines, and what is read and written. A write to
+// standard output that fails ends a run with its error.
 #![tactic(auto)]
 
+pub mod failures;
 mod notes;
 
-ghost use Rattle.std.specs.Prelude.{◌≡◌, ◌≤◌, length};
+ghost use Rattle.std.specs.Prelude.{◌≡◌, ◌≤◌, length, IfOk};
 ghost use Rattle.answers.specs.Said.{said_count, handed_count};
 ghost use Rattle.runner.specs.Bounds.{Turned};
 
 use answers::{Fault, Said};
-use libc::STDOUT_FILENO;
+use failures::fail;
 use script::input;
 use script::input::Input;
 use script_writing::texts::{put_number, put_text};
+use std::io;
+use std::io::Read;
+use std::rt::Files;
 
 // The script language allows a line of 524,288 bytes and an operand of 131,072. What is handed back is no longer than an operand. The
 // longest answers are listings: a line has up to some 110 bytes, and 16,384 bytes of a hello have at most 8,192 lines.
@@ -41,20 +46,27 @@ fn answer_room() -> [u8; ANSWER] {
     [0u8; ANSWER]
 }
 
-// Answers every line of the script that the descriptor gives; with notes, which begin with `#`, where they are asked for.
-pub fn run(fd: i32, notes: bool) {
+// Answers every line of the script that the reader gives; with notes, which begin with `#`, where they are asked for.
+pub fn run(
+    rt: &(impl Files + Print + Eprint),
+    script: &mut impl Read,
+    notes: bool,
+) -> io::Result<()> {
     let mut chunk = chunk_room();
     let mut line = line_room();
     let mut last = last_room();
     let mut out = answer_room();
-    answer_all(fd, notes, &mut chunk, &mut line, &mut last, &mut out);
+    answer_all(
+        rt, script, notes, &mut chunk, &mut line, &mut last, &mut out,
+    )
 }
 
 // Answers one line, with notes.
-pub fn run_line(line: &[u8]) {
+pub fn run_line(rt: &(impl Files + Print), line: &[u8]) -> io::Result<()> {
     let mut last = last_room();
     let mut out = answer_room();
-    answer(line, 1, false, true, &mut last, 0, &mut out);
+    answer(rt, line, 1, false, true, &mut last, 0, &mut out)?;
+    Ok(())
 }
 
 // Where the run stands: in its input, and how many bytes `last` holds, those that `_` stands for.
@@ -67,70 +79,75 @@ pub struct Standing {
 // A proved loop has to end, and nothing says that a script does. So the loop counts its turns down, from a number that no run
 // uses up.
 fn answer_all(
-    fd: i32,
+    rt: &(impl Files + Print + Eprint),
+    script: &mut impl Read,
     notes: bool,
     chunk: &mut [u8],
     line: &mut [u8],
     last: &mut [u8],
     out: &mut [u8],
-) {
+) -> io::Result<()> {
     let mut turns = u64::MAX;
     let mut t = Standing {
         input: input::start(),
         kept: 0,
     };
     while 0 < turns {
-        t = turn(fd, notes, chunk, line, last, out, t);
+        t = turn(rt, script, notes, chunk, line, last, out, t)?;
         let s = t.input;
         if s.over {
             break;
         }
         turns -= 1;
     }
+    Ok(())
 }
 
 // Reads once where the chunk is used up.
-fn fill(fd: i32, chunk: &mut [u8], s: Input) -> Input
+fn fill(rt: &impl Eprint, script: &mut impl Read, chunk: &mut [u8], s: Input) -> Input
     requires { (s.start ≤ s.end) × (s.end ≤ length chunk.old) }
     ensures { (result.start ≤ result.end) × (result.end ≤ length chunk.old) × (result.length ≡ s.length) }
 {
     if s.start < s.end {
         return s;
     }
-    input::fill(s, read_some(fd, chunk))
+    input::fill(s, read_some(rt, script, chunk))
 }
 
 // How many bytes one read put at the chunk's front. What cannot be read, as a folder, ends like an empty script, and standard error
 // says why.
-fn read_some(fd: i32, chunk: &mut [u8]) -> usize
+fn read_some(rt: &impl Eprint, script: &mut impl Read, chunk: &mut [u8]) -> usize
     ensures { result ≤ length chunk.old }
 {
-    let got = libc::read(fd, chunk);
-    if got < 0 {
-        os::fail(b"crustdelta: the script");
-        return 0;
+    match script.read(chunk) {
+        Ok(n) => n,
+        Err(e) => {
+            fail(rt, "crustdelta: the script", &e);
+            0
+        }
     }
-    io::count(got, chunk)
 }
 
 // Takes what the chunk has of the line, and answers the line where it is whole.
 fn turn(
-    fd: i32,
+    rt: &(impl Files + Print + Eprint),
+    script: &mut impl Read,
     notes: bool,
     chunk: &mut [u8],
     line: &mut [u8],
     last: &mut [u8],
     out: &mut [u8],
     t: Standing,
-) -> Standing
+) -> io::Result<Standing>
     requires { Turned (length chunk.old) (length line.old) (length last.old) t }
-    ensures { Turned (length chunk.old) (length line.old) (length last.old) result }
+    ensures { IfOk result (λ r. Turned (length chunk.old) (length line.old) (length last.old) r) }
 {
-    let filled = fill(fd, chunk, t.input);
+    let filled = fill(rt, script, chunk, t.input);
     let taken = input::take(chunk, line, filled);
     if taken.whole {
         let n = taken.length;
         let kept = answer(
+            rt,
             &line[0..n],
             taken.number,
             taken.long,
@@ -138,20 +155,21 @@ fn turn(
             last,
             t.kept,
             out,
-        );
-        return Standing {
+        )?;
+        return Ok(Standing {
             input: input::next_line(taken),
             kept,
-        };
+        });
     }
-    Standing {
+    Ok(Standing {
         input: taken,
         kept: t.kept,
-    }
+    })
 }
 
 // Answers a line, and gives how many bytes `last` now holds. "A line that is empty or begins with `#` has no answer."
 fn answer(
+    rt: &(impl Files + Print),
     line: &[u8],
     number: u64,
     long: bool,
@@ -159,44 +177,45 @@ fn answer(
     last: &mut [u8],
     kept: usize,
     out: &mut [u8],
-) -> usize
+) -> io::Result<usize>
     requires { kept ≤ length last.old }
-    ensures { result ≤ length last.old }
+    ensures { IfOk result (λ k. k ≤ length last.old) }
 {
     if line.len() == 0 {
-        return kept;
+        return Ok(kept);
     }
     if line[0] == b'#' {
-        return kept;
+        return Ok(kept);
     }
     if long {
-        error(number, Fault::LongLine, notes, out);
-        return kept;
+        error(rt, number, Fault::LongLine, notes, out)?;
+        return Ok(kept);
     }
-    answer_command(line, number, notes, last, kept, out)
+    answer_command(rt, line, number, notes, last, kept, out)
 }
 
 // Answers a line that is a command. What `_` stands for is lent meanwhile, so what the answer hands back goes to a buffer of its own
 // first.
 fn answer_command(
+    rt: &(impl Files + Print),
     line: &[u8],
     number: u64,
     notes: bool,
     last: &mut [u8],
     kept: usize,
     out: &mut [u8],
-) -> usize
+) -> io::Result<usize>
     requires { kept ≤ length last.old }
-    ensures { result ≤ length last.old }
+    ensures { IfOk result (λ k. k ≤ length last.old) }
 {
     let mut handed = last_room();
-    let said = commands::command(line, &last[0..kept], &mut handed, out);
+    let said = commands::command(rt, line, &last[0..kept], &mut handed, out);
     let k = handed_length(said);
-    tell(said, number, notes, out);
+    tell(rt, said, number, notes, out)?;
     if let Said::Handed(_, _) = said {
-        return put_text(last, &handed[0..k]);
+        return Ok(put_text(last, &handed[0..k]));
     }
-    kept
+    Ok(kept)
 }
 
 // How many bytes an answer hands back.
@@ -224,33 +243,40 @@ fn text_length(said: Said) -> usize
 }
 
 // Writes what a line is answered.
-fn tell(said: Said, number: u64, notes: bool, out: &mut [u8])
+fn tell(rt: &impl Print, said: Said, number: u64, notes: bool, out: &mut [u8]) -> io::Result<()>
     requires { said_count said ≤ length out.old }
 {
     if let Said::Error(fault) = said {
-        error(number, fault, notes, out);
-        return;
+        return error(rt, number, fault, notes, out);
     }
-    say(out, text_length(said));
+    say(rt, out, text_length(said))?;
     if let Said::Refused(_, refusal) = said {
         if notes {
-            notes::explain_refusal(refusal);
+            return notes::explain_refusal(rt, refusal);
         }
     }
+    Ok(())
 }
 
 // Ends the n bytes of an answer with a line feed and writes them.
-fn say(out: &mut [u8], n: usize)
+fn say(rt: &impl Print, out: &mut [u8], n: usize) -> io::Result<()>
     requires { n ≤ length out.old }
 {
     let end = n + put_text(&mut out[n..], b"\n");
-    io::write_all(STDOUT_FILENO, &out[0..end]);
+    rt.write_all(&out[0..end])
 }
 
-fn error(number: u64, fault: Fault, notes: bool, out: &mut [u8]) {
+fn error(
+    rt: &impl Print,
+    number: u64,
+    fault: Fault,
+    notes: bool,
+    out: &mut [u8],
+) -> io::Result<()> {
     let n = put_number(out, b"error ", number);
-    say(out, n);
+    say(rt, out, n)?;
     if notes {
-        notes::explain_fault(fault);
+        return notes::explain_fault(rt, fault);
     }
+    Ok(())
 }

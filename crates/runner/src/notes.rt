@@ -3,8 +3,8 @@
 ghost use Rattle.std.specs.Prelude.{◌≤◌, length};
 
 use answers::Fault;
-use libc::STDOUT_FILENO;
 use script::reading::find;
+use std::io;
 
 // The place after the line that begins at a place.
 fn after_line(text: &[u8], at: usize) -> usize
@@ -19,21 +19,21 @@ fn after_line(text: &[u8], at: usize) -> usize
 }
 
 // Writes the line of a text that has k lines before it, where there is one.
-fn note(text: &[u8], k: u64) {
+fn note(rt: &impl Print, text: &[u8], k: u64) -> io::Result<()> {
     let mut at: usize = 0;
     let mut left = k;
     while 0 < left {
         if text.len() <= at {
-            return;
+            return Ok(());
         }
         at = after_line(text, at);
         left -= 1;
     }
     let end = after_line(text, at);
-    io::write_all(STDOUT_FILENO, &text[at..end]);
+    rt.write_all(&text[at..end])
 }
 
-pub fn explain_fault(f: Fault) {
+pub fn explain_fault(rt: &impl Print, f: Fault) -> io::Result<()> {
     let k = match f {
         Fault::NoCommand => 0,
         Fault::Count => 1,
@@ -44,6 +44,7 @@ pub fn explain_fault(f: Fault) {
         Fault::LongLine => 6,
     };
     note(
+        rt,
         b"# there is no such command\n\
         # the command has another number of operands, parted by single spaces\n\
         # a number is decimal and below 2^64\n\
@@ -52,15 +53,16 @@ pub fn explain_fault(f: Fault) {
         # an operand has up to 131,072 bytes\n\
         # a line has up to 524,288 bytes\n",
         k,
-    );
+    )
 }
 
 // What the number of a refusal means: a line for each, from 1.
-pub fn explain_refusal(number: u64) {
+pub fn explain_refusal(rt: &impl Print, number: u64) -> io::Result<()> {
     if number == 0 {
-        return;
+        return Ok(());
     }
     note(
+        rt,
         b"# 1: the value is 2^62 or more\n\
         # 2: the output is shorter than the varint\n\
         # 3: bytes of the varint are missing\n\
@@ -89,5 +91,5 @@ pub fn explain_refusal(number: u64) {
         # 26: the output is shorter than the frames\n\
         # 27: the place is past the blob's end, or bytes of the record are missing\n",
         number - 1,
-    );
+    )
 }

@@ -3,67 +3,63 @@
 // writes replay.script, and what the Rust answered at the end of the file stdout, after the line that tells so.
 #![tactic(auto)]
 
-use libc::STDOUT_FILENO;
+use std::io::Write;
+use std::rt::Files;
+use std::{fs, io};
 
 // Writes a byte so many times, up to 4,096.
-fn write_page(fd: i32, byte: u8, times: usize) {
+fn write_page(file: &mut impl Write, byte: u8, times: usize) -> io::Result<()> {
     let page = [byte; 4096];
     if times <= 4096 {
-        io::write_all(fd, &page[0..times]);
+        return file.write_all(&page[0..times]);
     }
+    Ok(())
 }
 
 // The same, any number of times.
-fn write_run(fd: i32, byte: u8, times: usize) {
+fn write_run(file: &mut impl Write, byte: u8, times: usize) -> io::Result<()> {
     let mut left = times;
     while 4096 < left {
-        write_page(fd, byte, 4096);
+        write_page(file, byte, 4096)?;
         left -= 4096;
     }
-    write_page(fd, byte, left);
+    write_page(file, byte, left)
 }
 
-fn make_file(path: &[u8], times: usize) {
-    let fd = os::create(path);
-    write_run(fd, b'%', times);
-    libc::close(fd);
+fn make_file(rt: &impl Files, path: &str, times: usize) -> io::Result<()> {
+    let mut file = fs::create(rt, path)?;
+    write_run(&mut file, b'%', times)
 }
 
-fn make_limits(path: &[u8]) {
-    let fd = os::create(path);
+fn make_limits(rt: &impl Files, path: &str) -> io::Result<()> {
+    let mut file = fs::create(rt, path)?;
     // a byte more than a line may have, and then a line as ever
-    write_run(fd, b'x', 524289);
-    io::write_all(fd, b"\nsize 64\n");
+    write_run(&mut file, b'x', 524289)?;
+    file.write_all(b"\nsize 64\n")?;
     // as many as it may have: the line is read, and is no command
-    write_run(fd, b'x', 524288);
-    io::write_all(fd, b"\n");
+    write_run(&mut file, b'x', 524288)?;
+    file.write_all(b"\n")?;
     // a comment has no answer, however long
-    write_run(fd, b'#', 524289);
+    write_run(&mut file, b'#', 524289)?;
     // operands of 131,072 bytes and of one more; the last line lacks its line feed
-    io::write_all(
-        fd,
+    file.write_all(
         b"\nread 131072*25\nread 131073*25\nread @full\nread @full+-\nread @full+00\nread @over\nsize 63",
-    );
-    libc::close(fd);
+    )
 }
 
-fn run(path: &[u8], notes: bool) {
-    let fd = os::open_read(path);
-    runner::run(fd, notes);
-    libc::close(fd);
+fn run(rt: &(impl Files + Print + Eprint), path: &str, notes: bool) -> io::Result<()> {
+    let mut script = fs::open(rt, path)?;
+    runner::run(rt, &mut script, notes)
 }
 
-fn main() {
-    make_file(b"full", 131072);
-    make_file(b"over", 131073);
-    make_limits(b"limits.script");
-    io::write_all(STDOUT_FILENO, b"# two-greetings.script\n");
-    run(b"two-greetings.script", true);
-    io::write_all(STDOUT_FILENO, b"# limits.script\n");
-    run(b"limits.script", true);
-    io::write_all(
-        STDOUT_FILENO,
-        b"# replay.script: what the original Rust answered\n",
-    );
-    run(b"replay.script", false);
+fn main(rt: HostRuntime) -> io::Result<()> {
+    make_file(&rt, "full", 131072)?;
+    make_file(&rt, "over", 131073)?;
+    make_limits(&rt, "limits.script")?;
+    rt.println("# two-greetings.script")?;
+    run(&rt, "two-greetings.script", true)?;
+    rt.println("# limits.script")?;
+    run(&rt, "limits.script", true)?;
+    rt.println("# replay.script: what the original Rust answered")?;
+    run(&rt, "replay.script", false)
 }

@@ -5,7 +5,7 @@ use lib.ListN.{length}
 use Rattle.crustdelta.proofs.put_line.Given as goal
 
 abbrev pub invariant-loop-i : goal.invariant-loop-i
-invariant-loop-i l = (l.n ≤ length l.out) × (length l.out ≡ length l.initial.out)
+invariant-loop-i g l = (l.n ≤ length l.out) × (length l.out ≡ length l.initial.out)
 
 abbrev pub decreases-loop-i : goal.decreases-loop-i
-decreases-loop-i l = l.count - l.i
+decreases-loop-i g l = l.count - l.i

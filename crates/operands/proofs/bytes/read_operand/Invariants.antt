@@ -5,7 +5,7 @@ use lib.ListN.{length}
 use Rattle.operands.proofs.bytes.read_operand.Given as goal
 
 abbrev pub invariant-loop-fault : goal.invariant-loop-fault
-invariant-loop-fault l = (l.at ≤ length l.text) × (l.n ≤ length l.out) × (length l.out ≡ length l.initial.out)
+invariant-loop-fault g l = (l.at ≤ length l.text) × (l.n ≤ length l.out) × (length l.out ≡ length l.initial.out)
 
 abbrev pub decreases-loop-fault : goal.decreases-loop-fault
-decreases-loop-fault l = length l.text - l.at
+decreases-loop-fault g l = length l.text - l.at
