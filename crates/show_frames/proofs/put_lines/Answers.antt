@@ -46,9 +46,9 @@ returns c =
     let l = c.loop-at in
     let w = c.put_end in
     elim c.loop-at-test.branch [
-      else-loop-at-test p ↦
-        ended-whole h stop l.at l.used w.result _ args.out.now l.out w.new.out l.invariant.3 refl w.ensures p.loop-at-test.false |
-      then-loop-at-test+then-out-used-lt-ROOM q ↦
-        ended-short h stop l.at l.used w.result _ args.out.now l.out w.new.out l.invariant.3 refl w.ensures l.invariant.2 l.invariant.1
-            q.if-out-used-lt-ROOM.true
+      | else-loop-at-test p ↦
+          ended-whole h stop l.at l.used w.result _ args.out.now l.out w.new.out l.invariant.3 refl w.ensures p.loop-at-test.false
+      | then-loop-at-test+then-out-used-lt-ROOM q ↦
+          ended-short h stop l.at l.used w.result _ args.out.now l.out w.new.out l.invariant.3 refl w.ensures l.invariant.2 l.invariant.1
+          q.if-out-used-lt-ROOM.true
     ]
