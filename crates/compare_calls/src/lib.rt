@@ -23,8 +23,7 @@ use varint::{Got, Width};
 use wire::Stop;
 
 // The width, or 2^32 plus the number.
-#[unsafe(no_mangle)]
-pub extern "C" fn compare_varint_size(value: u64) -> u64
+pub fn compare_varint_size(value: u64) -> u64
     ensures { result ≡ coded (size_of value) }
 {
     match varint::size(value) {
@@ -33,8 +32,7 @@ pub extern "C" fn compare_varint_size(value: u64) -> u64
     }
 }
 
-#[unsafe(no_mangle)]
-pub extern "C" fn compare_varint_write(value: u64, out: &mut [u8]) -> u64
+pub fn compare_varint_write(value: u64, out: &mut [u8]) -> u64
     ensures { PutCoded value out.old result out.new }
 {
     match varint::write(value, out) {
@@ -44,8 +42,7 @@ pub extern "C" fn compare_varint_write(value: u64, out: &mut [u8]) -> u64
 }
 
 // The value, or 2^63 plus the number.
-#[unsafe(no_mangle)]
-pub extern "C" fn compare_varint_value(input: &[u8]) -> u64
+pub fn compare_varint_value(input: &[u8]) -> u64
     ensures { result ≡ coded_value (read_of input.now) }
 {
     match varint::read(input) {
@@ -55,8 +52,7 @@ pub extern "C" fn compare_varint_value(input: &[u8]) -> u64
 }
 
 // The width, or 2^32 plus the number.
-#[unsafe(no_mangle)]
-pub extern "C" fn compare_varint_width(input: &[u8]) -> u64
+pub fn compare_varint_width(input: &[u8]) -> u64
     ensures { result ≡ coded_width (read_of input.now) }
 {
     match varint::read(input) {
@@ -66,8 +62,7 @@ pub extern "C" fn compare_varint_width(input: &[u8]) -> u64
 }
 
 // The sum of the values read one after another, up to the end or the first refusal, modulo 2^64: a run of reads to be timed.
-#[unsafe(no_mangle)]
-pub extern "C" fn compare_varint_sum(input: &[u8]) -> u64
+pub fn compare_varint_sum(input: &[u8]) -> u64
     ensures { result ≡ sum_of input.now }
 {
     let mut at: usize = 0;
@@ -87,8 +82,7 @@ pub extern "C" fn compare_varint_sum(input: &[u8]) -> u64
 }
 
 // The count of bytes that the maker draws for a hello, or 2^32 plus the number.
-#[unsafe(no_mangle)]
-pub extern "C" fn compare_drawn(
+pub fn compare_drawn(
     browser: u64,
     name: &[u8],
     scid: &[u8],
@@ -104,8 +98,7 @@ pub extern "C" fn compare_drawn(
 }
 
 // The place after the record, 2^33 at the end, or 2^32 plus the number.
-#[unsafe(no_mangle)]
-pub extern "C" fn compare_next(blob: &[u8], place: usize) -> u64
+pub fn compare_next(blob: &[u8], place: usize) -> u64
     ensures { result ≡ coded_next (record_at blob.now place) }
 {
     match records::next_record(blob, place) {
@@ -116,8 +109,7 @@ pub extern "C" fn compare_next(blob: &[u8], place: usize) -> u64
 }
 
 // The length of the part that the splitter hands back, which is copied to the output's front; 2^32 where that is too short.
-#[unsafe(no_mangle)]
-pub extern "C" fn compare_record(blob: &[u8], place: usize, out: &mut [u8]) -> u64
+pub fn compare_record(blob: &[u8], place: usize, out: &mut [u8]) -> u64
     ensures { PartCoded blob.now place out.old result out.new }
 {
     let part = records::split_records(blob, place);
@@ -128,8 +120,7 @@ pub extern "C" fn compare_record(blob: &[u8], place: usize, out: &mut [u8]) -> u
 }
 
 // The length of the report's text, as the command `report` answers it, or 2^32 plus the number.
-#[unsafe(no_mangle)]
-pub extern "C" fn compare_report(hello: &[u8], out: &mut [u8]) -> u64
+pub fn compare_report(hello: &[u8], out: &mut [u8]) -> u64
     ensures { ReportCoded (read hello.now) out.old result out.new }
 {
     match answers_reader::say_report(hello, out) {
@@ -141,8 +132,7 @@ pub extern "C" fn compare_report(hello: &[u8], out: &mut [u8]) -> u64
 }
 
 // The length of the text that answers the command `set`.
-#[unsafe(no_mangle)]
-pub extern "C" fn compare_set(hello: &[u8], out: &mut [u8]) -> u64
+pub fn compare_set(hello: &[u8], out: &mut [u8]) -> u64
     ensures { TextCoded (set_text (extension_set (read hello.now))) out.old result out.new }
 {
     match answers_reader::say_set(hello, out) {
@@ -154,8 +144,7 @@ pub extern "C" fn compare_set(hello: &[u8], out: &mut [u8]) -> u64
 }
 
 // Where the reader stops: 2^32 times the number, plus the place; 0 where the hello is accepted.
-#[unsafe(no_mangle)]
-pub extern "C" fn compare_stopped(hello: &[u8]) -> u64
+pub fn compare_stopped(hello: &[u8]) -> u64
     ensures { result ≡ coded_stop (stopped_at hello.now) }
 {
     match fingerprint_stops::stopped_at(hello) {
@@ -172,8 +161,7 @@ fn add_word(sum: u64, word: u16) -> u64
 }
 
 // One place of each list of the report, added up modulo 2^64: the whole report is built, and no list can be left out. To be timed.
-#[unsafe(no_mangle)]
-pub extern "C" fn compare_picked(hello: &[u8], place: usize) -> u64
+pub fn compare_picked(hello: &[u8], place: usize) -> u64
     ensures { result ≡ picked_of (parsed_of (read hello.now)) place }
 {
     if 16 <= place {

@@ -16,8 +16,7 @@ use frames::joining::Joined;
 use tls::Made;
 
 // Makes a hello: its length.
-#[unsafe(no_mangle)]
-pub extern "C" fn crustdelta_make(
+pub fn crustdelta_make(
     profile: u64,
     name: &[u8],
     scid: &[u8],
@@ -33,8 +32,7 @@ pub extern "C" fn crustdelta_make(
 }
 
 // Reads a hello: 0. No report is built.
-#[unsafe(no_mangle)]
-pub extern "C" fn crustdelta_read(hello: &[u8]) -> u64
+pub fn crustdelta_read(hello: &[u8]) -> u64
     ensures { result ≡ read_answer (read hello.now) }
 {
     let number = fingerprint::reading::refusal(hello);
@@ -43,8 +41,7 @@ pub extern "C" fn crustdelta_read(hello: &[u8]) -> u64
 
 // Reads a hello and writes its report, straight from the hello's bytes: the report's length. Where the report does not fit, the number is
 // 100, which no question of document 01 has.
-#[unsafe(no_mangle)]
-pub extern "C" fn crustdelta_report(hello: &[u8], out: &mut [u8]) -> u64
+pub fn crustdelta_report(hello: &[u8], out: &mut [u8]) -> u64
     ensures { ReportCoded (read hello.now) out.old result out.new }
 {
     match read_head(hello) {
@@ -67,8 +64,7 @@ pub extern "C" fn crustdelta_report(hello: &[u8], out: &mut [u8]) -> u64
 }
 
 // Joins frames: the end of the stream.
-#[unsafe(no_mangle)]
-pub extern "C" fn crustdelta_join(frames: &[u8], out: &mut [u8], marks: &mut [u8]) -> u64
+pub fn crustdelta_join(frames: &[u8], out: &mut [u8], marks: &mut [u8]) -> u64
     ensures { JoinCoded frames.now out.old marks.old result out.new marks.new }
 {
     match frames::joining::reassemble_crypto(frames, out, marks) {
@@ -78,8 +74,7 @@ pub extern "C" fn crustdelta_join(frames: &[u8], out: &mut [u8], marks: &mut [u8
 }
 
 // Cuts a hello into frames of c bytes of data each: their length in all.
-#[unsafe(no_mangle)]
-pub extern "C" fn crustdelta_frames(c: u64, hello: &[u8], out: &mut [u8]) -> u64
+pub fn crustdelta_frames(c: u64, hello: &[u8], out: &mut [u8]) -> u64
     ensures { CutCoded c hello.now out.old result out.new }
 {
     match frames::cutting::write_frames(c, hello, out) {
@@ -89,8 +84,7 @@ pub extern "C" fn crustdelta_frames(c: u64, hello: &[u8], out: &mut [u8]) -> u64
 }
 
 // Whether two hellos are alike: 1 or 0.
-#[unsafe(no_mangle)]
-pub extern "C" fn crustdelta_alike(a: &[u8], b: &[u8]) -> u64
+pub fn crustdelta_alike(a: &[u8], b: &[u8]) -> u64
     ensures { result ≡ cond (definition.alike (read a.now) (read b.now)) 1 0 }
 {
     if alike::alike(a, b) { 1 } else { 0 }
