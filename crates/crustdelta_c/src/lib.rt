@@ -16,13 +16,7 @@ use frames::joining::Joined;
 use tls::Made;
 
 // Makes a hello: its length.
-pub fn crustdelta_make(
-    profile: u64,
-    name: &[u8],
-    scid: &[u8],
-    tape: &[u8],
-    out: &mut [u8],
-) -> u64
+pub fn crustdelta_make(profile: u64, name: &[u8], scid: &[u8], tape: &[u8], out: &mut [u8]) -> u64
     ensures { MakeCoded length_of profile name.now scid.now tape.now out.old result out.new }
 {
     match tls::making::generate_client_hello(profile, name, scid, tape, out) {
