@@ -46,18 +46,19 @@ fn say(
     println!(rt; "{browser} {browser2} {name} {name2} {number} {number2} {alike}")
 }
 
-fn greet(
-    rt: &impl Print,
-    browser: u64,
-    name: &str,
-    browser2: u64,
-    name2: &str,
-) -> io::Result<()> {
+fn greet(rt: &impl Print, browser: u64, name: &str, browser2: u64, name2: &str) -> io::Result<()> {
     let tape = [0x11u8; 1808];
     let tape2 = [0xeeu8; 1808];
     let mut frames = [0u8; 4096];
     let mut frames2 = [0u8; 4096];
-    let n = put_frames(browser, name.as_bytes(), b"\x01\x02", &tape, 100, &mut frames);
+    let n = put_frames(
+        browser,
+        name.as_bytes(),
+        b"\x01\x02",
+        &tape,
+        100,
+        &mut frames,
+    );
     let m = put_frames(browser2, name2.as_bytes(), b"", &tape2, 700, &mut frames2);
     let mut hello = [0u8; 2048];
     let mut hello2 = [0u8; 2048];
