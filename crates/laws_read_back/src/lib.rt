@@ -1,3 +1,2 @@
 // What the maker makes, the reader reads back (proofs/ReadBack.antt). No code.
 #![tactic(auto)]
-

@@ -15,8 +15,8 @@ loop-i-preserved c =
     let i = c.loop-i.i in
     let inside = c.loop-i-test.true in
     elim c.if-items-i.branch [
-      then-items-i w ↦ omega (arith, counts-here items i inside x w.if-items-i.true)
-    | else-items-i w ↦ omega (arith, counts-on items i inside x w.if-items-i.false)
+      | then-items-i w ↦ omega (arith, counts-here items i inside x w.if-items-i.true)
+      | else-items-i w ↦ omega (arith, counts-on items i inside x w.if-items-i.false)
     ]
 
 pub returns : goal.returns
