@@ -6,8 +6,7 @@
 ghost use Rattle.std.specs.Prelude.{◌≤◌, length};
 
 use frames::cutting::{Cut, write_frames};
-use libc::STDOUT_FILENO;
-use script_writing::texts::put_two_numbers;
+use std::io;
 use third_demand::{Outcome, two_greetings};
 use tls::Made;
 use tls::making::generate_client_hello;
@@ -29,34 +28,38 @@ fn put_frames(browser: u64, name: &[u8], scid: &[u8], tape: &[u8], c: u64, out: 
     }
 }
 
-fn say(browser: u64, name: &[u8], browser2: u64, name2: &[u8], outcome: Outcome) {
-    let mut line = [0u8; 64];
-    let n = put_two_numbers(&mut line, b"", browser, b" ", browser2);
-    io::write_all(STDOUT_FILENO, &line[0..n]);
-    io::write_all(STDOUT_FILENO, b" ");
-    io::write_all(STDOUT_FILENO, name);
-    io::write_all(STDOUT_FILENO, b" ");
-    io::write_all(STDOUT_FILENO, name2);
+fn say(
+    rt: &impl Print,
+    browser: u64,
+    name: &str,
+    browser2: u64,
+    name2: &str,
+    outcome: Outcome,
+) -> io::Result<()> {
     let first = outcome.first;
     let second = outcome.second;
     let report = first.report;
     let report2 = second.report;
-    let m = put_two_numbers(&mut line, b" ", report.number, b" ", report2.number);
-    io::write_all(STDOUT_FILENO, &line[0..m]);
-    if outcome.alike {
-        io::write_all(STDOUT_FILENO, b" yes\n");
-    } else {
-        io::write_all(STDOUT_FILENO, b" no\n");
-    }
+    let number = report.number;
+    let number2 = report2.number;
+    let alike = if outcome.alike { "yes" } else { "no" };
+    println!(rt; "{browser} {browser2} {name} {name2} {number} {number2} {alike}")
 }
 
-fn greet(browser: u64, name: &[u8], browser2: u64, name2: &[u8]) {
+fn greet(rt: &impl Print, browser: u64, name: &str, browser2: u64, name2: &str) -> io::Result<()> {
     let tape = [0x11u8; 1808];
     let tape2 = [0xeeu8; 1808];
     let mut frames = [0u8; 4096];
     let mut frames2 = [0u8; 4096];
-    let n = put_frames(browser, name, b"\x01\x02", &tape, 100, &mut frames);
-    let m = put_frames(browser2, name2, b"", &tape2, 700, &mut frames2);
+    let n = put_frames(
+        browser,
+        name.as_bytes(),
+        b"\x01\x02",
+        &tape,
+        100,
+        &mut frames,
+    );
+    let m = put_frames(browser2, name2.as_bytes(), b"", &tape2, 700, &mut frames2);
     let mut hello = [0u8; 2048];
     let mut hello2 = [0u8; 2048];
     let mut out = [0xa5u8; 16384];
@@ -64,12 +67,12 @@ fn greet(browser: u64, name: &[u8], browser2: u64, name2: &[u8]) {
     let mut marks = [0xffu8; 16384];
     let outcome = two_greetings(
         browser,
-        name,
+        name.as_bytes(),
         b"\x01\x02",
         &tape,
         &frames[0..n],
         browser2,
-        name2,
+        name2.as_bytes(),
         b"",
         &tape2,
         &frames2[0..m],
@@ -79,14 +82,15 @@ fn greet(browser: u64, name: &[u8], browser2: u64, name2: &[u8]) {
         &mut out2,
         &mut marks,
     );
-    say(browser, name, browser2, name2, outcome);
+    say(rt, browser, name, browser2, name2, outcome)
 }
 
-fn main() {
+fn main(rt: HostRuntime) -> io::Result<()> {
     let mut i: u64 = 0;
     while i < 9 {
-        greet(i / 3, b"example.org", i % 3, b"example.org");
-        greet(i / 3, b"example.org", i % 3, b"example.com");
+        greet(&rt, i / 3, "example.org", i % 3, "example.org")?;
+        greet(&rt, i / 3, "example.org", i % 3, "example.com")?;
         i += 1;
     }
+    Ok(())
 }
