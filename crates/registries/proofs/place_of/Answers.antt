@@ -1,5 +1,4 @@
 -- `place_of` is a search from the table's start: the place so far and the distance from there make the number's place. Assumes nothing.
-use Prim.Native.Nat.{◌-◌}
 use native.Mathlib.Omega.{arith}
 use Rattle.script.proofs.ScanLaws.{distance-here, distance_next, distance-end}
 use Rattle.registries.specs.Registry.{place_of}

@@ -4,7 +4,6 @@ use Rattle.script_writing.proofs.AnswerLaws.{written-more}
 use Rattle.show_lines.specs.Lines.{row}
 use Rattle.show_marks.specs.Text.{stop_from}
 use Rattle.show_words.proofs.LineLaws.{marks-any, least-bytes, line_plain, line_marked}
-use native.Mathlib.Omega.{arith}
 use Rattle.show_words.proofs.put_line.Goals as goal
 
 pub returns-then-marked : goal.returns-then-marked

@@ -1,5 +1,4 @@
 -- `put_phrase` meets its contract: what stands so far is a text. Assumes nothing.
-use Prim.Native.Nat.{◌-◌}
 use mathlib.Core.Path.{refl}
 use Rattle.show_words.proofs.WroteLaws.{wrote_none, wrote-more}
 use borrow.Author.Rules.{rules}

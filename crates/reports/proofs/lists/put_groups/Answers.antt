@@ -1,13 +1,12 @@
 -- `reports::lists::put_groups` meets its contract: the label and the groups before place i stand in the output. Assumes nothing.
-use Prim.Native.Nat.{ℕ, ◌-◌, ◌<◌}
+use Prim.Native.Nat.{ℕ, ◌<◌}
 use mathlib.Core.Path.{refl}
-use mathlib.Core.List.{List, [], ◌∷◌, map}
+use mathlib.Core.List.{List, [], ◌∷◌}
 use lib.ListN.{length, get_or}
 use Rattle.script_writing.specs.Hex.{word_text}
 use Rattle.script_writing.proofs.AnswerLaws.{written_one}
-use Rattle.profiles.specs.declared.Group.{Group}
 use Rattle.fingerprint_lists.specs.Arrays.{group}
-use Rattle.fingerprint.specs.InRange.{group_number, group_numbers}
+use Rattle.fingerprint.specs.InRange.{group_number}
 use Rattle.reports.proofs.PartLaws.{list-start, list-next, list-end, numbers-next}
 use borrow.Author.Rules.{rules}
 use native.Mathlib.Omega.{arith}

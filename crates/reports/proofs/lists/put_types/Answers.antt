@@ -1,14 +1,12 @@
 -- `reports::lists::put_types` meets its contract: the label and the types before place i stand in the output. Assumes nothing.
-use Prim.Native.Nat.{ℕ, ◌-◌, ◌<◌}
+use Prim.Native.Nat.{ℕ, ◌<◌}
 use mathlib.Core.Path.{refl}
-use mathlib.Core.List.{List, [], ◌∷◌, map}
+use mathlib.Core.List.{List, [], ◌∷◌}
 use lib.ListN.{length, get_or}
 use Rattle.script_writing.specs.Hex.{word_text}
 use Rattle.script_writing.proofs.AnswerLaws.{written_one}
-use Rattle.profiles.specs.declared.ExtType.{ExtType}
 use Rattle.fingerprint_lists.specs.Arrays.{ext_type}
 use Rattle.fingerprint.specs.Code.{type_number}
-use Rattle.fingerprint.specs.InRange.{type_numbers}
 use Rattle.reports.proofs.PartLaws.{list-start, list-next, list-end, numbers-next}
 use borrow.Author.Rules.{rules}
 use native.Mathlib.Omega.{arith}

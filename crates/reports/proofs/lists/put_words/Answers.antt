@@ -1,8 +1,8 @@
 -- `reports::lists::put_words` meets its contract: the label and the numbers before place i stand in the output. Assumes nothing.
-use Prim.Native.Nat.{ℕ, ◌-◌, ◌<◌}
+use Prim.Native.Nat.{ℕ, ◌<◌}
 use mathlib.Core.Path.{refl}
-use mathlib.Core.List.{List, [], ◌∷◌, map}
-use lib.ListN.{length, take, get_or}
+use mathlib.Core.List.{List, [], ◌∷◌}
+use lib.ListN.{length, get_or}
 use Rattle.script_writing.specs.Hex.{word_text}
 use Rattle.script_writing.proofs.AnswerLaws.{written_one}
 use Rattle.reports.proofs.PartLaws.{list-start, list-next, list-end, map_next}

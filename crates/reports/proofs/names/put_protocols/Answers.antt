@@ -1,9 +1,7 @@
 -- `reports::names::put_protocols` meets its contract: the label and the names before place i stand in the output. Assumes nothing.
-use Prim.Native.Nat.{ℕ, ◌-◌, ◌<◌}
+use Prim.Native.Nat.{◌<◌}
 use mathlib.Core.Path.{refl}
-use mathlib.Core.List.{List}
-use lib.ListN.{length, take}
-use Rattle.fingerprint_lists.specs.declared.Span.{Span}
+use lib.ListN.{length}
 use Rattle.fingerprint_lists.specs.Arrays.{span}
 use Rattle.reports.specs.Lines.{each, alpn_label}
 use Rattle.reports.specs.Code.{span_parts}

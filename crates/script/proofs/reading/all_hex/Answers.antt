@@ -1,5 +1,5 @@
 -- `script::reading::all_hex` meets its contract: every byte passed is a digit, so the bytes left decide. Assumes nothing.
-use Rattle.std.proofs.Common.{◌-◌, get_or, sym, ◌∙◌, arith}
+use Rattle.std.proofs.Common.{get_or, sym, ◌∙◌, arith}
 use Rattle.script.specs.Hex.{is_hex}
 use Rattle.script.proofs.ScanLaws.{all-fails, all-next, all_end}
 use Rattle.script.proofs.HexLaws.{hex-is, hex-not}

@@ -1,5 +1,5 @@
 -- `script::reading::all_plain` meets its contract: every byte passed may stand in a text, so the bytes left decide. Assumes nothing.
-use Rattle.std.proofs.Common.{◌-◌, get_or, sym, ◌∙◌}
+use Rattle.std.proofs.Common.{get_or, sym, ◌∙◌}
 use Rattle.script.specs.Piece.{is_plain}
 use Rattle.script.proofs.ScanLaws.{all-fails, all-next, all_end}
 use Rattle.script.proofs.PieceLaws.{plain-low, plain-high, plain-quote, plain-is}

@@ -1,5 +1,5 @@
 -- `script::reading::fill` meets its contract: as many equal bytes as turns stand at the front of the output. Assumes nothing.
-use Rattle.std.proofs.Common.{◌≡◌, ℕ, ◌-◌, List, ◌++◌, drop, set, replicate, refl, ap, ◌∙◌, arith, length-set}
+use Rattle.std.proofs.Common.{◌≡◌, ℕ, List, ◌++◌, drop, set, replicate, refl, ap, ◌∙◌, arith, length-set}
 use borrow.Author.Fill.{fill_none, fill_more}
 use Rattle.wire.proofs.FrontLaws.{front-replicate}
 use Rattle.script.proofs.reading.fill.Goals as goal

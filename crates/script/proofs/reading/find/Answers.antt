@@ -1,5 +1,5 @@
 -- `script::reading::find` meets its contract: the place so far and the distance from there make the place of the first such byte. Assumes nothing.
-use Rattle.std.proofs.Common.{◌-◌, arith}
+use Rattle.std.proofs.Common.{arith}
 use Rattle.script.proofs.ScanLaws.{distance-here, distance_next, distance-end, found}
 use Rattle.script.proofs.reading.find.Goals as goal
 

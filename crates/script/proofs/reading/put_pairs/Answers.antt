@@ -1,5 +1,5 @@
 -- `script::reading::put_pairs` meets its contract: the bytes of the pairs passed stand at the front of the output. Assumes nothing.
-use Rattle.std.proofs.Common.{ℕ, ◌+◌, ◌-◌, ◌*◌, List, set, refl, ap, ◌∙◌, arith, length-set, take_all}
+use Rattle.std.proofs.Common.{ℕ, ◌+◌, ◌*◌, List, set, refl, ap, ◌∙◌, arith, length-set, take_all}
 use Rattle.wire.specs.Front.{front}
 use Rattle.wire.proofs.FrontLaws.{front-none, front-more}
 use Rattle.script.specs.Hex.{is_hex, pairs}

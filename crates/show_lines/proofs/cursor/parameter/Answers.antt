@@ -1,8 +1,7 @@
 -- Two numbers are read, as in `parameter_front`. Assumes nothing.
-use Prim.Native.Nat.{◌+◌, ◌≤◌}
 use native.Mathlib.Omega.{arith}
 use mathlib.Core.Path.{◌∙◌}
-use lib.ListN.{length, drop}
+use lib.ListN.{drop}
 use Rattle.wire.proofs.ListLaws.{part_to_end}
 use Rattle.varint.specs.Varint.{Found}
 use Rattle.varint.specs.declared.Got.TheVariants as got
