@@ -1,5 +1,5 @@
 -- `put_lines` meets its contract: the lines so far stand in the output, and the others begin where they end. Assumes nothing.
-use Prim.Native.Nat.{◌-◌, zero-le}
+use Prim.Native.Nat.{zero-le}
 use mathlib.Core.Path.{refl, ap, ◌∙◌}
 use native.Mathlib.Omega.{arith}
 use Rattle.wire.proofs.ListLaws.{part_to_end, length-part-to-end}

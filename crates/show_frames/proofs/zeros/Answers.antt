@@ -1,5 +1,4 @@
 -- `zeros` meets its contract: the bytes 00 so far and those from there on are those at the front. Assumes nothing.
-use Prim.Native.Nat.{◌-◌}
 use native.Mathlib.Omega.{arith}
 use Rattle.show_frames.specs.Frames.{zeros}
 use Rattle.script_writing.proofs.ShownLaws.{equal-more, equal-stop, equal-end}
