@@ -82,13 +82,7 @@ pub fn compare_varint_sum(input: &[u8]) -> u64
 }
 
 // The count of bytes that the maker draws for a hello, or 2^32 plus the number.
-pub fn compare_drawn(
-    browser: u64,
-    name: &[u8],
-    scid: &[u8],
-    tape: &[u8],
-    out: &mut [u8],
-) -> u64
+pub fn compare_drawn(browser: u64, name: &[u8], scid: &[u8], tape: &[u8], out: &mut [u8]) -> u64
     ensures { MakeCoded drawn_of browser name.now scid.now tape.now out.old result out.new }
 {
     match tls::making::generate_client_hello(browser, name, scid, tape, out) {
