@@ -1,5 +1,5 @@
-// The calls for compare/ that the C library (crustdelta_c) does not have, held against the Rust: numbers and byte slices, with C's calling
-// convention.
+// The calls for compare/ that the C library (crustdelta_c) does not have, held against the Rust, over numbers and byte slices;
+// compare_calls_c exports them.
 #![tactic(auto)]
 
 ghost use Rattle.std.specs.Prelude.{◌≡◌};

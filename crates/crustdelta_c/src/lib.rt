@@ -1,5 +1,5 @@
-// The C library: the calls of include/crustdelta.h, numbers and byte slices with C's calling convention. Each answers the result, or 2^32
-// plus the number of the refusal. A number is taken as it is passed, 64 bits wide.
+// The C library: the calls of include/crustdelta.h, over numbers and byte slices; crustdelta_c_c exports them to C. Each answers the result,
+// or 2^32 plus the number of the refusal. A number is taken as it is passed, 64 bits wide.
 #![tactic(auto)]
 
 ghost use Rattle.std.specs.Prelude.{◌≡◌, cond};
