@@ -1,5 +1,5 @@
 -- `show_hello::put_lines` meets its contract: the lines so far stand in the output, and the others begin at the cursor. Assumes nothing.
-use Prim.Native.Nat.{◌-◌, zero-le}
+use Prim.Native.Nat.{zero-le}
 use mathlib.Core.Path.{refl}
 use Rattle.show_marks.specs.Text.{stop_from}
 use Rattle.show_hello.proofs.TurnLaws.{going-none, going_more, going-ended}
