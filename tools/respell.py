@@ -21,6 +21,7 @@ APART = {
     "show_lines": {"by_part": "by_part_lem"},
     "frames": {"agrees_at": "agrees_at_lem"},
     "alike": {"agree_of": "agree_of_lem"},
+    "profiles": {"row_of": "row_of_lem"},
 }
 
 

@@ -11,14 +11,14 @@ use fingerprint::walk::{Header, read_header};
 use profiles::ExtType;
 
 // A hello and a place in it.
-#[derive(Drop)]
+#[derive(Clone, Copy)]
 pub struct ExtensionWalk<'a> {
     pub hello: &'a [u8],
     pub at: usize,
 }
 
 // An extension, by its type and the ends of its body, where the next one begins too; the hello's end; or the number of the refusal.
-#[derive(Drop)]
+#[derive(Clone, Copy)]
 pub enum Reached {
     Extension(ExtType, usize, usize),
     End,

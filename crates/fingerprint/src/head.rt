@@ -7,14 +7,14 @@ use wire::{be16, wide};
 
 // The fields before the extensions: the session id's length, the suites' part of the hello, and the place of the first extension; or
 // the number of the refusal.
-#[derive(Drop)]
+#[derive(Clone, Copy)]
 pub enum Head {
     Fields(usize, Span, usize),
     Refused(u64),
 }
 
 // A place in the hello, or the hello is not in its form.
-#[derive(Drop)]
+#[derive(Clone, Copy)]
 pub enum Place {
     At(usize),
     Cut,

@@ -22,7 +22,7 @@ pub struct Survey {
 }
 
 // A header: the extension's type and its body's ends; or header or body are not inside the block.
-#[derive(Drop)]
+#[derive(Clone, Copy)]
 pub enum Header {
     At(u16, usize, usize),
     Cut,
@@ -30,7 +30,7 @@ pub enum Header {
 
 // One extension: its type, the place of its body in a survey, its body's ends, and how many parameter ids it has; or the number of the
 // refusal.
-#[derive(Drop)]
+#[derive(Clone, Copy)]
 pub enum Step {
     Next(u16, usize, usize, usize, usize),
     Refused(u64),

@@ -11,14 +11,14 @@ ghost use Rattle.fingerprint_bodies.specs.Code.{is_whole, count_asked, formed, w
 use wire::{be16, wide};
 
 // A name at the front of some bytes: its length.
-#[derive(Drop)]
+#[derive(Clone, Copy)]
 pub enum Name {
     Whole(usize),
     Cut,
 }
 
 // A key share at the front of some bytes: its group, and the bytes that it takes.
-#[derive(Drop)]
+#[derive(Clone, Copy)]
 pub enum Share {
     Whole(u16, usize),
     Cut,

@@ -17,14 +17,14 @@ use lists::{put_list, put_names, put_shares};
 use numbers::{clear, put_counts, put_ids, put_words};
 
 // How many entries each list has.
-#[derive(Drop)]
+#[derive(Clone, Copy)]
 pub struct FirstCounts {
     pub suites: usize,
     pub groups: usize,
     pub shares: usize,
 }
 
-#[derive(Drop)]
+#[derive(Clone, Copy)]
 pub struct LastCounts {
     pub algorithms: usize,
     pub versions: usize,

@@ -21,14 +21,14 @@ pub enum Parameter {
 }
 
 // What is asked of a body: the number of the refusal, or 0, and then how many ids it has.
-#[derive(Drop)]
+#[derive(Clone, Copy)]
 pub struct Asked {
     pub number: u64,
     pub ids: usize,
 }
 
 // How many entries a list has; or one is cut.
-#[derive(Drop)]
+#[derive(Clone, Copy)]
 pub enum Count {
     Are(usize),
     Cut,

@@ -9,7 +9,7 @@ use crate::joining::LIMIT;
 use varint::{put_varint, varint_length};
 
 // The length of all frames, or the number of the refusal.
-#[derive(Drop)]
+#[derive(Clone, Copy)]
 pub enum Cut {
     Length(usize),
     Refused(u64),

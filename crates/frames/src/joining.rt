@@ -18,14 +18,14 @@ pub enum Joined {
 }
 
 // The bytes that a frame took, and the end of the stream so far; or the number of the refusal.
-#[derive(Drop)]
+#[derive(Clone, Copy)]
 pub enum Step {
     Next(usize, usize),
     Refused(u64),
 }
 
 // The end of the stream; or the number of the refusal and its place in the frames.
-#[derive(Drop)]
+#[derive(Clone, Copy)]
 pub enum Walked {
     End(usize),
     Refused(u64, usize),

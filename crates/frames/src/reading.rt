@@ -5,14 +5,14 @@ ghost use Rattle.frames.specs.Read.{FrameFound, CryptoFound};
 use varint::Got;
 
 // A CRYPTO frame as it lies in the input: the place of its data in the stream, and in the input.
-#[derive(Drop)]
+#[derive(Clone, Copy)]
 pub struct CryptoFrame {
     pub offset: u64,
     pub start: usize,
     pub end: usize,
 }
 
-#[derive(Drop)]
+#[derive(Clone, Copy)]
 pub enum FrameRead {
     Padding,
     Ping,

@@ -7,14 +7,14 @@ use script::reading::{Piece, piece_end, read_piece};
 use std::rt::Files;
 
 // Whether an operand was read; where not, why.
-#[derive(Drop)]
+#[derive(Clone, Copy)]
 pub enum Reading {
     Whole,
     Failed(Fault),
 }
 
 // A byte operand: how many bytes it has, at the front of the output; none where it was not read.
-#[derive(Drop)]
+#[derive(Clone, Copy)]
 pub struct Operand {
     pub count: usize,
     pub reading: Reading,

@@ -55,7 +55,7 @@ pub fn read_value(line: &[u8], command: usize) -> Number {
 }
 
 // The byte operands that a command reads, one after the other in a buffer: where each ends. Those that it lacks are empty.
-#[derive(Drop)]
+#[derive(Clone, Copy)]
 pub struct Inputs {
     pub first: usize,
     pub second: usize,

@@ -23,8 +23,8 @@ use Rattle.profiles.proofs.Table.{at-three, chrome-length, firefox-length, curl-
 abbrev pub of_three : {A : Type 0} → (ℕ → A) → A → ℕ → A
 of_three f d b = get_or (f 0 ∷ f 1 ∷ f 2 ∷ []) b d
 
-pub row_of : {A : Type 0} (f : ℕ → A) (d : A) (b : ℕ) → b < 3 → of_three f d b ≡ f b
-row_of f d = at-three (λ b. of_three f d b ≡ f b) refl refl refl
+pub row_of_lem : {A : Type 0} (f : ℕ → A) (d : A) (b : ℕ) → b < 3 → of_three f d b ≡ f b
+row_of_lem f d = at-three (λ b. of_three f d b ≡ f b) refl refl refl
 
 -- the profile that the tables give, with the rows of structs as they are handed over; the last three are document 01's numbers
 abbrev pub filled : ℕ → List ExtType → List Group → List Group → List Parameter → Profile

@@ -5,7 +5,7 @@ ghost use Rattle.std.specs.Prelude.{◌≡◌};
 ghost use Rattle.records.specs.Records.{record_of, Finds};
 
 // What stands at a place of a blob: a record, with the place after it; the end; or the number of the refusal.
-#[derive(Drop)]
+#[derive(Clone, Copy)]
 pub enum Next {
     Record(usize),
     End,

@@ -70,7 +70,7 @@ pub fn run_line(rt: &(impl Files + Print), line: &[u8]) -> io::Result<()> {
 }
 
 // Where the run stands: in its input, and how many bytes `last` holds, those that `_` stands for.
-#[derive(Drop)]
+#[derive(Clone, Copy)]
 pub struct Standing {
     pub input: Input,
     pub kept: usize,

@@ -8,7 +8,7 @@ ghost use Rattle.script.specs.Hex.{hex_digit, is_hex, hex_byte, pairs};
 ghost use Rattle.script.specs.Piece.{piece_end, is_plain, bytes, text_of, hex_of, times_of, run_of, piece_of, Read};
 
 // A number of a script: decimal and below 2^64.
-#[derive(Drop)]
+#[derive(Clone, Copy)]
 pub enum Number {
     Value(u64),
     Malformed,
@@ -16,7 +16,7 @@ pub enum Number {
 
 // A piece of a byte operand: so many bytes at the front of the output; a file's bytes, which the caller reads; no piece at
 // all; or more bytes than the output has room for.
-#[derive(Drop)]
+#[derive(Clone, Copy)]
 pub enum Piece {
     Bytes(usize),
     File,

@@ -5,7 +5,7 @@ ghost use Rattle.std.specs.Prelude.{◌≡◌, length};
 use crate::reading::find;
 
 // Where a word of a line stands.
-#[derive(Drop)]
+#[derive(Clone, Copy)]
 pub enum Word {
     At { start: usize, end: usize },
     Missing,

@@ -17,7 +17,7 @@ use script_writing::texts::{put_number, put_text};
 use show_marks::{is_marked, least, put_front};
 
 // Where a line stands: its first place, the first one after it, and what it is. A place has so many digits.
-#[derive(Drop)]
+#[derive(Clone, Copy)]
 pub struct Spot {
     pub digits: usize,
     pub at: usize,
@@ -26,7 +26,7 @@ pub struct Spot {
 }
 
 // Where the reader stopped; a number of 0 stands for no refusal.
-#[derive(Drop)]
+#[derive(Clone, Copy)]
 pub struct Stop {
     pub number: u64,
     pub place: usize,

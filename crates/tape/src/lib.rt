@@ -9,7 +9,7 @@ ghost use Rattle.tape.specs.Tape.{rand_bytes, lowest_first, next_u64, shuffle, a
 use wire::wide;
 
 // What a writer that draws did: how many bytes it wrote, and the place on the tape after its last draw.
-#[derive(Drop)]
+#[derive(Clone, Copy)]
 pub struct Wrote {
     pub length: usize,
     pub next: usize,

@@ -12,7 +12,7 @@ use tls::Made;
 use tls::making::generate_client_hello;
 
 // One greeting: what the maker answered, what the joiner answered, and the report of what it left.
-#[derive(Drop)]
+#[derive(Clone, Copy)]
 pub struct Greeted {
     pub made: Made,
     pub joined: Joined,
@@ -20,7 +20,7 @@ pub struct Greeted {
 }
 
 // Both greetings, and whether what was joined is alike.
-#[derive(Drop)]
+#[derive(Clone, Copy)]
 pub struct Outcome {
     pub first: Greeted,
     pub second: Greeted,

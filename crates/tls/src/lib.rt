@@ -6,13 +6,13 @@ pub mod building;
 pub mod making;
 
 // A hello's length, and how many bytes of the tape were drawn for it.
-#[derive(Drop)]
+#[derive(Clone, Copy)]
 pub struct Hello {
     pub length: usize,
     pub drawn: usize,
 }
 
-#[derive(Drop)]
+#[derive(Clone, Copy)]
 pub enum Made {
     Hello(Hello),
     Refused(u64),

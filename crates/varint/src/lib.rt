@@ -15,20 +15,20 @@ const WIDTHS: [usize; 4] = [1, 2, 4, 8];
 const CEILINGS: [u64; 4] = [64, 16384, 1073741824, 4611686018427387904];
 
 // How many bytes a value takes, or the number of the refusal.
-#[derive(Drop)]
+#[derive(Clone, Copy)]
 pub enum Width {
     Bytes(usize),
     Refused(u64),
 }
 
 // What a read finds.
-#[derive(Drop)]
+#[derive(Clone, Copy)]
 pub struct Varint {
     pub value: u64,
     pub width: usize,
 }
 
-#[derive(Drop)]
+#[derive(Clone, Copy)]
 pub enum Got {
     Value(Varint),
     Refused(u64),

@@ -81,7 +81,7 @@ pub fn put_words(out: &mut [u8], values: &[u16]) -> usize
 
 // Where a reader or joiner stopped: the number of the refusal and the place at which the question was answered "no"; nowhere where all was
 // accepted.
-#[derive(Drop)]
+#[derive(Clone, Copy)]
 pub enum Stop {
     Nowhere,
     At(u64, usize),

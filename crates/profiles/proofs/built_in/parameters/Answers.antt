@@ -2,9 +2,9 @@
 use mathlib.Core.List.{[]}
 use Rattle.profiles.specs.Profile.{chrome_profile, firefox_profile, curl_profile, for_browser}
 use Rattle.profiles.specs.Rows.{parameter_row}
-use Rattle.profiles.proofs.TableLaws.{row_of}
+use Rattle.profiles.proofs.TableLaws.{row_of_lem}
 use Rattle.profiles.proofs.built_in.parameters.Goals as goal
 
 pub returns : goal.returns
 unfolding for_browser chrome_profile firefox_profile curl_profile
-returns c = row_of parameter_row [] _ c.requires
+returns c = row_of_lem parameter_row [] _ c.requires
