@@ -16,12 +16,13 @@ PIECE = {
     ".rt": re.compile(r"//[^\n]*|b?'(?:\\.|[^'\\\n])'|b?\"(?:\\.|[^\"\\])*\"", re.S),
 }
 CAMEL = re.compile(r"[a-z][a-z0-9]*[A-Z]")
-# in a crate: a lemma's name now, and the one that keeps it apart from a definition
+# a lemma's name now, and the one that keeps it apart from a definition, in a crate or where the lemma is stated and cited
 APART = {
-    "show_lines": {"by_part": "by_part_lem"},
-    "frames": {"agrees_at": "agrees_at_lem"},
-    "alike": {"agree_of": "agree_of_lem"},
-    "profiles": {"row_of": "row_of_lem"},
+    "crates/show_lines/": {"by_part": "by_part_lem"},
+    "crates/frames/": {"agrees_at": "agrees_at_lem"},
+    "crates/alike/": {"agree_of": "agree_of_lem"},
+    "crates/profiles/proofs/TableLaws.antt": {"row_of": "row_of_lem"},
+    "crates/profiles/proofs/built_in/": {"row_of": "row_of_lem"},
 }
 
 
@@ -59,7 +60,7 @@ def main():
     for path in sorted(glob.glob("crates/*/**/*", recursive=True)):
         if not path.endswith((".antt", ".rt", ".edit")):
             continue
-        apart = APART.get(path.split("/")[1], {})
+        apart = {old: new for place, names_there in APART.items() if path.startswith(place) for old, new in names_there.items()}
         text = open(path).read()
 
         def change(piece):
