@@ -2,7 +2,7 @@
 use native.Mathlib.Omega.{arith}
 use Rattle.records.specs.Records.{Finds}
 use Rattle.records.specs.declared.Next.TheVariants as next
-use Rattle.records.proofs.Promises.{part_of, no_part}
+use Rattle.records.proofs.Promises.{part_of}
 use Rattle.records.proofs.split_records.Goals as goal
 use Rattle.records.proofs.split_records.Goals.{In-Record}
 
@@ -28,7 +28,7 @@ pub returns-in-Record : goal.returns-in-Record
 returns-in-Record c = part_of _ _ _ (found (goal.at.returns-in-Record c).In-Record)
 
 pub returns-in-End : goal.returns-in-End
-returns-in-End c = no_part _ _ _ c.next_record.ensures (omega (arith, c.in-End.in-End-own.keys2))
+returns-in-End c = part_of _ _ _ (rw c.in-End.is at c.next_record.ensures)
 
 pub returns-in-Refused : goal.returns-in-Refused
-returns-in-Refused c = no_part _ _ _ c.next_record.ensures (omega (arith, c.in-Refused.in-Refused-own.keys3))
+returns-in-Refused c = part_of _ _ _ (rw c.in-Refused.is at c.next_record.ensures)
