@@ -44,9 +44,9 @@ agree_of a x b y =
     && (same_list same_numbers (names_of a (take x.alpn_count x.alpn)) (names_of b (take y.alpn_count y.alpn))
     && same_counts_of x y)))
 
-lists-shown : (m n : ℕ) (r s : Report) → same_lists_of (shown m r) (shown n s) ≡ same_lists (likeness r) (likeness s)
+lists-shown : (r s : Report) → same_lists_of (shown r) (shown s) ≡ same_lists (likeness r) (likeness s)
 unfolding same_lists_of same_lists likeness shown
-lists-shown m n r s =
+lists-shown r s =
     rw (
       words-shown r.cipher_suites,
       words-shown s.cipher_suites,
@@ -60,13 +60,13 @@ lists-shown m n r s =
       words-shown s.supported_versions,
     )
 
-agree-shown : (a b : List ℕ) (m n : ℕ) (r s : Report) → InRange a r → InRange b s → agree_of a (shown m r) b (shown n s) ≡ agree (likeness r) (likeness s)
+agree-shown : (a b : List ℕ) (r s : Report) → InRange a r → InRange b s → agree_of a (shown r) b (shown s) ≡ agree (likeness r) (likeness s)
 unfolding agree_of same_counts_of agree likeness shown
-agree-shown a b m n r s i j =
+agree-shown a b r s i j =
     rw (
       sni-shown a r.sni i.sni-lies,
       sni-shown b s.sni j.sni-lies,
-      lists-shown m n r s,
+      lists-shown r s,
       protocols-shown a r.alpn i.protocols-lie,
       protocols-shown b s.alpn j.protocols-lie,
       types-shown r.extensions,
@@ -82,7 +82,7 @@ module _ (a b : List ℕ) where
   unfolding alike
   alike-parsed x y p q =
       rw (p.accepted, q.accepted, p.shows, q.shows)
-      (sym (agree-shown a b 0 0 (report p.value) (report q.value) p.in-range q.in-range))
+      (sym (agree-shown a b (report p.value) (report q.value) p.in-range q.in-range))
 
   pub first-refused : (n : ℕ) → read a ≡ refused n → false ≡ alike (read a) (read b)
   unfolding alike

@@ -1,18 +1,17 @@
 -- What is compared of the report as the code hands it out: arrays with counts, and names as parts of the hello.
-use Rattle.std.specs.Prelude.{ℕ, Bool, ◌&&◌, List, map, take}
+use Rattle.std.specs.Prelude.{ℕ, Bool, ◌&&◌, List, map, take, Some, None}
+use Rattle.std.specs.Prelude as std
 use Rattle.std.proofs.Math.Option.{Option, none, some}
 use Rattle.wire.specs.Sums.{same_counts}
 use Rattle.fingerprint_lists.specs.declared.Span.{Span}
 use Rattle.fingerprint.specs.Code.{part_of}
 use Rattle.fingerprint.specs.InRange.{type_numbers, group_numbers}
 use Rattle.fingerprint.specs.declared.Fingerprint.{Fingerprint}
-use Rattle.fingerprint.specs.declared.Sni.{Sni}
-use Rattle.fingerprint.specs.declared.Sni.TheVariants.{At, Absent}
 use Rattle.alike.specs.Alike.{alike_id, same_numbers}
 
-abbrev pub name_of : List ℕ → Sni → Option (List ℕ)
-name_of h (At s) = some (part_of h s)
-name_of h Absent = none
+abbrev pub name_of : List ℕ → std.Option Span → Option (List ℕ)
+name_of h (Some s) = some (part_of h s)
+name_of h None = none
 
 abbrev pub names_of : List ℕ → List Span → List (List ℕ)
 names_of h l = map (part_of h) l

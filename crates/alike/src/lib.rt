@@ -16,29 +16,15 @@ use fingerprint::reading::parse_clienthello;
 pub fn alike(a: &[u8], b: &[u8]) -> bool
     ensures { result ≡ definition.alike (read a.now) (read b.now) }
 {
-    let x = parse_clienthello(a);
-    if x.number != 0 {
+    let Ok(x) = parse_clienthello(a) else {
         return false;
-    }
-    let y = parse_clienthello(b);
-    if y.number != 0 {
+    };
+    let Ok(y) = parse_clienthello(b) else {
         return false;
-    }
-    if x.legacy_session_id_len != y.legacy_session_id_len {
-        return false;
-    }
-    let x_name = x.sni;
-    let y_name = y.sni;
-    if !names::same_name(a, x_name, b, y_name) {
-        return false;
-    }
-    if !lists::same_lists(x, y) {
-        return false;
-    }
-    let x_alpn = x.alpn;
-    let y_alpn = y.alpn;
-    if !names::same_protocols(a, x_alpn, x.alpn_count, b, y_alpn, y.alpn_count) {
-        return false;
-    }
-    counts::same_but_for_order(x, y)
+    };
+    x.legacy_session_id_len == y.legacy_session_id_len
+        && names::same_name(a, x.sni, b, y.sni)
+        && lists::same_lists(&x, &y)
+        && names::same_protocols(a, x.alpn, x.alpn_count, b, y.alpn, y.alpn_count)
+        && counts::same_but_for_order(&x, &y)
 }

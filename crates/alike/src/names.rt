@@ -4,25 +4,18 @@ ghost use Rattle.fingerprint.specs.InRange.{Filled, SniInside, SpansInside};
 ghost use Rattle.alike.specs.Alike.{same_numbers, same_list, same_name};
 ghost use Rattle.alike.specs.Code.{name_of, names_of};
 
-use check::same;
-use fingerprint::Sni;
 use fingerprint::report::part;
 use fingerprint_lists::Span;
 
 // The server's names, or none in both.
-pub fn same_name(a: &[u8], x: Sni, b: &[u8], y: Sni) -> bool
+pub fn same_name(a: &[u8], x: Option<Span>, b: &[u8], y: Option<Span>) -> bool
     requires { SniInside a.now x × SniInside b.now y }
     ensures { result ≡ same_name (name_of a.now x) (name_of b.now y) }
 {
-    match x {
-        Sni::At(s) => match y {
-            Sni::At(t) => same(part(a, s), part(b, t)),
-            Sni::Absent => false,
-        },
-        Sni::Absent => match y {
-            Sni::At(_) => false,
-            Sni::Absent => true,
-        },
+    match (x, y) {
+        (Some(s), Some(t)) => part(a, s) == part(b, t),
+        (None, None) => true,
+        _ => false,
     }
 }
 
@@ -34,14 +27,10 @@ pub fn same_protocols(a: &[u8], x: [Span; 16], n: usize, b: &[u8], y: [Span; 16]
     if n != m {
         return false;
     }
-    let mut i: usize = 0;
-    while i < n {
-        let s = x[i];
-        let t = y[i];
-        if !same(part(a, s), part(b, t)) {
+    for i in 0..n {
+        if part(a, x[i]) != part(b, y[i]) {
             return false;
         }
-        i = i + 1;
     }
     true
 }

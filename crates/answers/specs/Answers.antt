@@ -45,6 +45,10 @@ refused_word = 114 ∷ 101 ∷ 102 ∷ 117 ∷ 115 ∷ 101 ∷ 100 ∷ space ∷
 
 -- ---- The answers
 
+-- the word and the number of a refusal
+abbrev pub refused_parts : ℕ → List (List ℕ)
+refused_parts n = refused_word ∷ decimal_text n ∷ []
+
 -- a word and the number that is the result; or the refusal's number
 abbrev pub number_parts : List ℕ → Answer ℕ → List (List ℕ)
 number_parts word (result n) = word ∷ decimal_text n ∷ []

@@ -8,22 +8,21 @@ ghost use Rattle.tls.specs.Make.{make_of, made_bytes, after_make};
 ghost use Rattle.frames.specs.Join.{join, placed_of, join_of, out_after, marks_after};
 ghost use Rattle.frames.specs.Cut.{frames_of, cut_of, after_cut};
 ghost use Rattle.records.specs.Records.{record_at, record_of};
-ghost use Rattle.std.specs.Prelude.{length};
-ghost use Rattle.answers.specs.Said.{plainly, handing, Says, Hands};
-ghost use Rattle.answers.specs.Answers.{size_parts, write_parts, read_parts, make_parts, join_parts, frames_parts, split_parts, splitting};
+ghost use Rattle.wire.specs.Refusals.{question};
+ghost use Rattle.std.specs.Prelude.{◌≡◌, ◌++◌, length};
+ghost use Rattle.answers.specs.Said.{number, said_count, plainly, handing, Says, Hands};
+ghost use Rattle.answers.specs.Answers.{refused_parts, buffer_parts, size_parts, write_parts, read_parts, make_parts, join_parts, frames_parts, split_parts, splitting};
 
-use frames::cutting::Cut;
-use frames::joining::Joined;
-use records::Next;
+use script::reading::NoPiece;
 use script_writing::texts::{
     put_bytes_and_number, put_number, put_number_and_bytes, put_number_and_two, put_text,
     put_two_numbers, put_two_numbers_and_bytes,
 };
-use tls::Made;
-use varint::{Got, Width};
+use std::fmt;
+use wire::Refusal;
 
 // Why a line is an error.
-#[derive(Clone, Copy)]
+#[derive(Clone, Copy, PartialEq, Eq, Debug)]
 pub enum Fault {
     NoCommand,
     Count,
@@ -34,14 +33,62 @@ pub enum Fault {
     LongLine,
 }
 
-// What a line is answered: so many bytes of text; the same with the count of the bytes handed back; the same with the number of a
-// refusal; or an error.
-#[derive(Clone, Copy)]
+impl fmt::Display for Fault {
+    fn fmt<W: fmt::Write>(&self, f: &mut fmt::Formatter<W>) -> fmt::Result {
+        f.write_str(match self {
+            Fault::NoCommand => "there is no such command",
+            Fault::Count => "the command has another number of operands, parted by single spaces",
+            Fault::NoNumber => "a number is decimal and below 2^64",
+            Fault::NoPiece => "bytes are pieces joined by +: hex, -, N*bb, \"text\", @path or _",
+            Fault::NoFile => "the file cannot be read",
+            Fault::LongOperand => "an operand has up to 131,072 bytes",
+            Fault::LongLine => "a line has up to 524,288 bytes",
+        })
+    }
+}
+
+impl From<NoPiece> for Fault {
+    fn from(no: NoPiece) -> Fault {
+        match no {
+            NoPiece::Malformed => Fault::NoPiece,
+            NoPiece::TooLong => Fault::LongOperand,
+        }
+    }
+}
+
+// What a line that is no error is answered: so many bytes of text; the same with the count of the bytes handed back; the same with
+// the refusal.
+#[derive(Clone, Copy, PartialEq, Eq, Debug)]
 pub enum Said {
     Answer(usize),
     Handed(usize, usize),
-    Refused(usize, u64),
-    Error(Fault),
+    Refused(usize, Refusal),
+}
+
+impl Said {
+    // How many bytes of text the answer has.
+    pub fn text(self) -> usize
+        ensures { result ≡ said_count self }
+    {
+        match self {
+            Said::Answer(n) | Said::Handed(n, _) | Said::Refused(n, _) => n,
+        }
+    }
+}
+
+// The answer to a call that is refused and has no buffer.
+fn refuse(refusal: Refusal, out: &mut [u8]) -> Said
+    ensures { Says (number (question refusal)) (refused_parts (question refusal)) result out.old out.new }
+{
+    Said::Refused(put_number(out, b"refused ", refusal.number()), refusal)
+}
+
+// The same, and the buffer.
+fn refuse_with(refusal: Refusal, buffer: &[u8], out: &mut [u8]) -> Said
+    ensures { Says (number (question refusal)) (refused_parts (question refusal) ++ buffer_parts buffer.now) result out.old out.new }
+{
+    let n = put_number_and_bytes(out, b"refused ", refusal.number(), buffer);
+    Said::Refused(n, refusal)
 }
 
 // size VALUE
@@ -49,8 +96,8 @@ pub fn say_size(value: u64, out: &mut [u8]) -> Said
     ensures { Says (plainly (size_of value)) (size_parts (size_of value)) result out.old out.new }
 {
     match varint::size(value) {
-        Width::Bytes(width) => Said::Answer(put_number(out, b"width ", width as u64)),
-        Width::Refused(number) => Said::Refused(put_number(out, b"refused ", number), number),
+        Ok(width) => Said::Answer(put_number(out, b"width ", width as u64)),
+        Err(refusal) => refuse(refusal, out),
     }
 }
 
@@ -59,16 +106,8 @@ pub fn say_write(value: u64, buffer: &mut [u8], out: &mut [u8]) -> Said
     ensures { Says (plainly (write_of value (length buffer.old))) (write_parts (write_of value (length buffer.old)) (after_write value buffer.old)) result out.old out.new }
 {
     match varint::write(value, buffer) {
-        Width::Bytes(width) => Said::Answer(put_number_and_bytes(
-            out,
-            b"width ",
-            width as u64,
-            buffer,
-        )),
-        Width::Refused(number) => Said::Refused(
-            put_number_and_bytes(out, b"refused ", number, buffer),
-            number,
-        ),
+        Ok(width) => { Said::Answer(put_number_and_bytes(out, b"width ", width as u64, buffer)) }
+        Err(refusal) => refuse_with(refusal, buffer, out),
     }
 }
 
@@ -77,14 +116,8 @@ pub fn say_read(input: &[u8], out: &mut [u8]) -> Said
     ensures { Says (plainly (read_of input.now)) (read_parts (read_of input.now)) result out.old out.new }
 {
     match varint::read(input) {
-        Got::Value(x) => Said::Answer(put_two_numbers(
-            out,
-            b"value ",
-            x.value,
-            b" width ",
-            x.width as u64,
-        )),
-        Got::Refused(number) => Said::Refused(put_number(out, b"refused ", number), number),
+        Ok(x) => Said::Answer(put_two_numbers(out, b"value ", x.value, b" width ", x.width as u64)),
+        Err(refusal) => refuse(refusal, out),
     }
 }
 
@@ -101,7 +134,7 @@ pub fn say_make(
     ensures { Hands (handing (make_of profile name.now scid.now tape.now (length buffer.old)) (made_bytes profile name.now scid.now tape.now)) (make_parts (make_of profile name.now scid.now tape.now (length buffer.old)) (after_make profile name.now scid.now tape.now buffer.old)) result out.old out.new last.old last.new }
 {
     match tls::making::generate_client_hello(profile, name, scid, tape, buffer) {
-        Made::Hello(hello) => {
+        Ok(hello) => {
             let n = put_two_numbers_and_bytes(
                 out,
                 b"length ",
@@ -113,10 +146,7 @@ pub fn say_make(
             let end = hello.length;
             Said::Handed(n, put_text(last, &buffer[0..end]))
         }
-        Made::Refused(number) => Said::Refused(
-            put_number_and_bytes(out, b"refused ", number, buffer),
-            number,
-        ),
+        Err(refusal) => refuse_with(refusal, buffer, out),
     }
 }
 
@@ -131,14 +161,14 @@ pub fn say_join(
     ensures { Hands (handing (join_of frames.now buffer.old marks.old) (placed_of (join frames.now))) (join_parts (join_of frames.now buffer.old marks.old) (out_after frames.now buffer.old marks.old) (marks_after frames.now buffer.old marks.old)) result out.old out.new last.old last.new }
 {
     match frames::joining::reassemble_crypto(frames, buffer, marks) {
-        Joined::End(end) => {
+        Ok(end) => {
             let n = put_number_and_two(out, b"end ", end as u64, buffer, marks);
             Said::Handed(n, put_text(last, &buffer[0..end]))
         }
-        Joined::Refused(number) => Said::Refused(
-            put_number_and_two(out, b"refused ", number, buffer, marks),
-            number,
-        ),
+        Err(refusal) => {
+            let n = put_number_and_two(out, b"refused ", refusal.number(), buffer, marks);
+            Said::Refused(n, refusal)
+        }
     }
 }
 
@@ -147,14 +177,11 @@ pub fn say_frames(c: u64, hello: &[u8], buffer: &mut [u8], last: &mut [u8], out:
     ensures { Hands (handing (cut_of c hello.now (length buffer.old)) (frames_of c hello.now)) (frames_parts (cut_of c hello.now (length buffer.old)) (after_cut c hello.now buffer.old)) result out.old out.new last.old last.new }
 {
     match frames::cutting::write_frames(c, hello, buffer) {
-        Cut::Length(length) => {
+        Ok(length) => {
             let n = put_number_and_bytes(out, b"length ", length as u64, buffer);
             Said::Handed(n, put_text(last, &buffer[0..length]))
         }
-        Cut::Refused(number) => Said::Refused(
-            put_number_and_bytes(out, b"refused ", number, buffer),
-            number,
-        ),
+        Err(refusal) => refuse_with(refusal, buffer, out),
     }
 }
 
@@ -164,12 +191,12 @@ pub fn say_split(place: u64, blob: &[u8], last: &mut [u8], out: &mut [u8]) -> Sa
 {
     let at = place as usize;
     match records::next_record(blob, at) {
-        Next::Record(after) => {
+        Ok(Some(after)) => {
             let part = records::split_records(blob, at);
             let n = put_bytes_and_number(out, b"record ", part, b" next ", after as u64);
             Said::Handed(n, put_text(last, part))
         }
-        Next::End => Said::Answer(put_text(out, b"end")),
-        Next::Refused(number) => Said::Refused(put_number(out, b"refused ", number), number),
+        Ok(None) => Said::Answer(put_text(out, b"end")),
+        Err(refusal) => refuse(refusal, out),
     }
 }

@@ -2,13 +2,13 @@
 use Prim.Native.Nat.{ℕ, ◌≤◌}
 use mathlib.Core.Path.{◌≡◌, subst}
 use mathlib.Core.List.{List, ◌++◌}
-use mathlib.Core.Option.{Option, some}
+use mathlib.Core.Option.{Option}
 use native.Mathlib.Omega.{arith}
 use lib.ListN.{length}
-use borrow.Author.Tests.{ne_eqb, le-leb}
-use Rattle.wire.specs.Stops.{Stopped, stopped}
+use borrow.Author.Tests.{le-leb}
+use Rattle.wire.specs.Stops.{Stopped}
 use Rattle.fingerprint_stops.specs.Stops.{stopped_at}
-use Rattle.show_marks.specs.Text.{verdict_parts, stop_from}
+use Rattle.show_marks.specs.Text.{verdict_parts}
 use Rattle.show_hello.specs.Listing.{Listed}
 use Rattle.frames.specs.Join.{limit, roomy}
 use Rattle.frames.specs.Stops.{join_stops, joiner_stops}
@@ -16,10 +16,6 @@ use Rattle.show_frames.specs.Frames.{FramesListed}
 use Rattle.answers_reader.specs.Listings.{ShowsHello, ShowsFrames}
 use Rattle.answers.specs.declared.Said.TheVariants as said
 use Rattle.answers.proofs.AnswerLaws.{says-result}
-
--- a number of 1 or more is that of a stop
-pub stop-numbered : (number place : ℕ) → 1 ≤ number → some (stopped number place) ≡ stop_from number place
-stop-numbered number place h = rw (ne_eqb number 0 (λ e. absurd (omega (arith, e))))
 
 pub shows-listing : (h : List ℕ) (stop : Option Stopped) (n : ℕ) (old new : List ℕ) → stop ≡ stopped_at h → Listed h stop n old new → ShowsHello h (said.Answer n) old new
 shows-listing h stop n old new e l =

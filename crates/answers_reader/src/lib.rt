@@ -18,18 +18,15 @@ use reports::{put_name_answer, put_report, put_set};
 use script_writing::texts::{put_number, put_text};
 use show_frames::put_frame_listing;
 use show_hello::put_listing;
-use wire::Stop;
 
 // report HELLO
 pub fn say_report(hello: &[u8], out: &mut [u8]) -> Said
     ensures { Says (plainly (read hello.now)) (report_answer (read hello.now)) result out.old out.new }
 {
-    let report = parse_clienthello(hello);
-    let number = report.number;
-    if number != 0 {
-        return Said::Refused(put_number(out, b"refused ", number), number);
+    match parse_clienthello(hello) {
+        Ok(report) => Said::Answer(put_report(out, hello, report)),
+        Err(refusal) => { Said::Refused(put_number(out, b"refused ", refusal.number()), refusal) }
     }
-    Said::Answer(put_report(out, hello, report))
 }
 
 // name HELLO DEFAULT
@@ -54,19 +51,17 @@ pub fn say_alike(a: &[u8], b: &[u8], out: &mut [u8]) -> Said
     ensures { Says plain (alike_parts (alike (read a.now) (read b.now))) result out.old out.new }
 {
     if alike::alike(a, b) {
-        return Said::Answer(put_text(out, b"yes"));
+        Said::Answer(put_text(out, b"yes"))
+    } else {
+        Said::Answer(put_text(out, b"no"))
     }
-    Said::Answer(put_text(out, b"no"))
 }
 
 // show HELLO
 pub fn say_show(hello: &[u8], out: &mut [u8]) -> Said
     ensures { ShowsHello hello.now result out.old out.new }
 {
-    match stopped_at(hello) {
-        Stop::Nowhere => Said::Answer(put_listing(out, hello, 0, 0)),
-        Stop::At(number, place) => Said::Answer(put_listing(out, hello, number, place)),
-    }
+    Said::Answer(put_listing(out, hello, stopped_at(hello)))
 }
 
 // The joiner's buffers, as short as it takes. As a call of its own an array costs the proof of its user nothing.
@@ -80,8 +75,6 @@ pub fn say_show_frames(frames: &[u8], out: &mut [u8]) -> Said
 {
     let mut buffer = joiner_room();
     let mut marks = joiner_room();
-    match joiner_stopped_at(frames, &mut buffer, &mut marks) {
-        Stop::Nowhere => Said::Answer(put_frame_listing(out, frames, 0, 0)),
-        Stop::At(number, place) => Said::Answer(put_frame_listing(out, frames, number, place)),
-    }
+    let stop = joiner_stopped_at(frames, &mut buffer, &mut marks);
+    Said::Answer(put_frame_listing(out, frames, stop))
 }

@@ -1,14 +1,20 @@
 -- What a write of a varint gives, as one number; and the loop of `compare_varint_sum`: what is still to be read gives the rest of the sum.
 -- Assumes nothing.
 use Rattle.std.proofs.Common.{◌≡◌, ℕ, zero, suc, ◌+◌, ◌-◌, ◌%◌, ◌^◌, ◌<◌, ◌≤◌, List, length, drop, sym, refl, ap, ◌∙◌, arith, drop_of_length-le, drop-drop}
-use Rattle.wire.specs.Answer.{result, refused, coded}
-use Rattle.varint.specs.Varint.{class_at, read_of, width_of, Written}
+use Rattle.std.specs.Prelude.{Result}
+use Rattle.wire.specs.Answer.{Answer, result, refused, and_then, coded}
+use Rattle.wire.specs.Refusals.{answer_of}
+use Rattle.wire.specs.declared.refusals.Refusal.{Refusal}
+use Rattle.varint.specs.Varint.{class_at, read_of, Written}
 use Rattle.varint.specs.declared.Varint.{Varint}
-use Rattle.varint.specs.declared.Width.{Width}
-use Rattle.compare_calls.specs.Sums.{sum_from, sum_of, PutCoded}
+use Rattle.compare_calls.specs.Sums.{coded_width, sum_from, sum_of, PutCoded}
 
-pub written-coded : {v : ℕ} {old new : List ℕ} {r : Width} → Written v old r new → PutCoded v old (coded (width_of r)) new
+pub written-coded : {v : ℕ} {old new : List ℕ} {r : Result ℕ Refusal} → Written v old r new → PutCoded v old (coded (answer_of r)) new
 written-coded w = record { is = ap coded w.is; output = w.output }
+
+pub width-coded : (a : Answer Varint) → coded (and_then a (λ x. result x.width)) ≡ coded_width a
+width-coded (result x) = refl
+width-coded (refused n) = refl
 
 -- enough fuel is left for the bytes from a place on, and they give the whole sum
 pub record Summing (s : List ℕ) (at sum : ℕ) : Type 0 where

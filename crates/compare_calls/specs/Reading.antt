@@ -32,16 +32,19 @@ coded_stop (some s) = 2 ^ 32 * s.number + s.place
 abbrev pub added : ℕ → ℕ → ℕ
 added a b = (a + b) % 2 ^ 64
 
--- one place below 16 of each list, and the number; 0 for other places
-unfoldable pub picked_of : Fingerprint → ℕ → ℕ
-picked_of p k =
-    cond (nat_le 16 k) 0
-    (added (added (added (added (added (added (added (added p.number
-    (slice_index p.cipher_suites k))
+-- one place of each list of a report
+unfoldable pub sum_at : Fingerprint → ℕ → ℕ
+sum_at p k =
+    added (added (added (added (added (added (added (slice_index p.cipher_suites k)
     (slice_index_or p.extensions k (ext_type 0)).0)
     (slice_index_or p.supported_groups k (group 0)).0)
     (slice_index_or p.key_share_groups k (group 0)).0)
     (slice_index p.signature_algorithms k))
     (slice_index p.supported_versions k))
     (slice_index_or p.alpn k (span 0 0)).start)
-    (slice_index p.transport_param_ids k))
+    (slice_index p.transport_param_ids k)
+
+-- the same, or the number where there is no report; 0 for places from 16 on
+unfoldable pub picked_of : Answer Fingerprint → ℕ → ℕ
+picked_of (result p) k = cond (nat_le 16 k) 0 (sum_at p k)
+picked_of (refused n) k = cond (nat_le 16 k) 0 n

@@ -2,7 +2,7 @@
 // compare_calls_c exports them.
 #![tactic(auto)]
 
-ghost use Rattle.std.specs.Prelude.{◌≡◌};
+ghost use Rattle.std.specs.Prelude.{◌≡◌, ◌<◌};
 ghost use Rattle.wire.specs.Answer.{coded};
 ghost use Rattle.varint.specs.Varint.{size_of, read_of};
 ghost use Rattle.records.specs.Records.{record_at};
@@ -14,31 +14,23 @@ ghost use Rattle.reports.specs.Lines.{set_text};
 ghost use Rattle.compare_calls.specs.Sums.{coded_value, coded_width, sum_of, PutCoded};
 ghost use Rattle.crustdelta_c.specs.Calls.{MakeCoded};
 ghost use Rattle.compare_calls.specs.Calls.{drawn_of, coded_next, PartCoded};
-ghost use Rattle.compare_calls.specs.Reading.{coded_stop, added, picked_of, ReportCoded, TextCoded};
+ghost use Rattle.compare_calls.specs.Reading.{coded_stop, sum_at, picked_of, ReportCoded, TextCoded};
 
 use answers::Said;
-use records::Next;
-use tls::Made;
-use varint::{Got, Width};
-use wire::Stop;
+use crustdelta_c::coded;
+use fingerprint::Fingerprint;
 
 // The width, or 2^32 plus the number.
 pub fn compare_varint_size(value: u64) -> u64
     ensures { result ≡ coded (size_of value) }
 {
-    match varint::size(value) {
-        Width::Bytes(w) => w as u64,
-        Width::Refused(n) => 4294967296 + n,
-    }
+    coded(varint::size(value))
 }
 
 pub fn compare_varint_write(value: u64, out: &mut [u8]) -> u64
     ensures { PutCoded value out.old result out.new }
 {
-    match varint::write(value, out) {
-        Width::Bytes(w) => w as u64,
-        Width::Refused(n) => 4294967296 + n,
-    }
+    coded(varint::write(value, out))
 }
 
 // The value, or 2^63 plus the number.
@@ -46,8 +38,8 @@ pub fn compare_varint_value(input: &[u8]) -> u64
     ensures { result ≡ coded_value (read_of input.now) }
 {
     match varint::read(input) {
-        Got::Value(x) => x.value,
-        Got::Refused(n) => 9223372036854775808 + n,
+        Ok(x) => x.value,
+        Err(refusal) => 9223372036854775808 + refusal.number(),
     }
 }
 
@@ -55,10 +47,7 @@ pub fn compare_varint_value(input: &[u8]) -> u64
 pub fn compare_varint_width(input: &[u8]) -> u64
     ensures { result ≡ coded_width (read_of input.now) }
 {
-    match varint::read(input) {
-        Got::Value(x) => x.width as u64,
-        Got::Refused(n) => 4294967296 + n,
-    }
+    coded(varint::read(input).map(|x| x.width))
 }
 
 // The sum of the values read one after another, up to the end or the first refusal, modulo 2^64: a run of reads to be timed.
@@ -67,16 +56,13 @@ pub fn compare_varint_sum(input: &[u8]) -> u64
 {
     let mut at: usize = 0;
     let mut sum: u64 = 0;
+    // A place and not an item: each step takes as many bytes as the varint has.
     while at < input.len() {
-        match varint::read(&input[at..]) {
-            Got::Value(x) => {
-                sum = std::num::wrapping_add_u64(sum, x.value);
-                at = at + x.width;
-            }
-            Got::Refused(_) => {
-                return sum;
-            }
-        }
+        let Ok(x) = varint::read(&input[at..]) else {
+            return sum;
+        };
+        sum = sum.wrapping_add(x.value);
+        at += x.width;
     }
     sum
 }
@@ -85,10 +71,8 @@ pub fn compare_varint_sum(input: &[u8]) -> u64
 pub fn compare_drawn(browser: u64, name: &[u8], scid: &[u8], tape: &[u8], out: &mut [u8]) -> u64
     ensures { MakeCoded drawn_of browser name.now scid.now tape.now out.old result out.new }
 {
-    match tls::making::generate_client_hello(browser, name, scid, tape, out) {
-        Made::Hello(hello) => hello.drawn as u64,
-        Made::Refused(n) => 4294967296 + n,
-    }
+    let made = tls::making::generate_client_hello(browser, name, scid, tape, out);
+    coded(made.map(|hello| hello.drawn))
 }
 
 // The place after the record, 2^33 at the end, or 2^32 plus the number.
@@ -96,9 +80,9 @@ pub fn compare_next(blob: &[u8], place: usize) -> u64
     ensures { result ≡ coded_next (record_at blob.now place) }
 {
     match records::next_record(blob, place) {
-        Next::Record(after) => after as u64,
-        Next::End => 8589934592,
-        Next::Refused(n) => 4294967296 + n,
+        Ok(Some(after)) => after as u64,
+        Ok(None) => 8589934592,
+        Err(refusal) => coded(Err(refusal)),
     }
 }
 
@@ -120,8 +104,7 @@ pub fn compare_report(hello: &[u8], out: &mut [u8]) -> u64
     match answers_reader::say_report(hello, out) {
         Said::Answer(n) => n as u64,
         Said::Handed(n, _) => n as u64,
-        Said::Refused(_, number) => 4294967296 + number,
-        Said::Error(_) => 0,
+        Said::Refused(_, refusal) => coded(Err(refusal)),
     }
 }
 
@@ -133,7 +116,6 @@ pub fn compare_set(hello: &[u8], out: &mut [u8]) -> u64
         Said::Answer(n) => n as u64,
         Said::Handed(n, _) => n as u64,
         Said::Refused(n, _) => n as u64,
-        Said::Error(_) => 0,
     }
 }
 
@@ -142,37 +124,35 @@ pub fn compare_stopped(hello: &[u8]) -> u64
     ensures { result ≡ coded_stop (stopped_at hello.now) }
 {
     match fingerprint_stops::stopped_at(hello) {
-        Stop::Nowhere => 0,
-        Stop::At(number, place) => 4294967296 * number + place as u64,
+        None => 0,
+        Some(stop) => 4294967296 * stop.refusal.number() + stop.place as u64,
     }
 }
 
-// A 16-bit number added to a sum, modulo 2^64.
-fn add_word(sum: u64, word: u16) -> u64
-    ensures { result ≡ added sum word }
-{
-    std::num::wrapping_add_u64(sum, word as u64)
-}
-
-// One place of each list of the report, added up modulo 2^64: the whole report is built, and no list can be left out. To be timed.
+// One place of each list of the report, added up modulo 2^64, or the number: the whole report is built, and no list can be left out. To be
+// timed.
 pub fn compare_picked(hello: &[u8], place: usize) -> u64
     ensures { result ≡ picked_of (parsed_of (read hello.now)) place }
 {
     if 16 <= place {
         return 0;
     }
-    let report = fingerprint::reading::parse_clienthello(hello);
-    let extension = report.extensions[place];
-    let group = report.supported_groups[place];
-    let share = report.key_share_groups[place];
-    let name = report.alpn[place];
-    let mut sum = report.number;
-    sum = add_word(sum, report.cipher_suites[place]);
-    sum = add_word(sum, extension.0);
-    sum = add_word(sum, group.0);
-    sum = add_word(sum, share.0);
-    sum = add_word(sum, report.signature_algorithms[place]);
-    sum = add_word(sum, report.supported_versions[place]);
-    sum = std::num::wrapping_add_u64(sum, name.start as u64);
-    std::num::wrapping_add_u64(sum, report.transport_param_ids[place])
+    match fingerprint::reading::parse_clienthello(hello) {
+        Ok(report) => picked(report, place),
+        Err(refusal) => refusal.number(),
+    }
+}
+
+fn picked(report: Fingerprint, place: usize) -> u64
+    requires { place < 16 }
+    ensures { result ≡ sum_at report place }
+{
+    u64::from(report.cipher_suites[place])
+        .wrapping_add(u64::from(report.extensions[place].0))
+        .wrapping_add(u64::from(report.supported_groups[place].0))
+        .wrapping_add(u64::from(report.key_share_groups[place].0))
+        .wrapping_add(u64::from(report.signature_algorithms[place]))
+        .wrapping_add(u64::from(report.supported_versions[place]))
+        .wrapping_add(report.alpn[place].start as u64)
+        .wrapping_add(report.transport_param_ids[place])
 }

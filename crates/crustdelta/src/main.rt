@@ -93,10 +93,8 @@ fn put_line(rt: &(impl Env + Eprint), out: &mut [u8]) -> usize
 {
     let count = arg_count(rt);
     let mut n = put_argument(rt, 1, out);
-    let mut i: usize = 2;
-    while i < count {
-        n = n + put_operand(rt, i, &mut out[n..]);
-        i = i + 1;
+    for i in 2..count {
+        n += put_operand(rt, i, &mut out[n..]);
     }
     n
 }

@@ -20,6 +20,6 @@ module _ (a : Answer ClientHello) (old : List ℕ) where
     unfolding report_of
     report-no-room h = let l = lt-leb 1368 (length old) h in record { is = rw (e, l); output = rw (e, l) }
 
-    pub report-written : (new : List ℕ) → 1368 ≤ length old → new ≡ front (layout (shown 0 (report v))) old → ReportCoded a old 1368 new
+    pub report-written : (new : List ℕ) → 1368 ≤ length old → new ≡ front (layout (shown (report v))) old → ReportCoded a old 1368 new
     unfolding report_of parsed_of
     report-written new h w = let l = le-leb 1368 (length old) h in record { is = rw (e, l); output = rw (e, l) w }

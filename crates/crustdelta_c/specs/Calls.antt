@@ -1,12 +1,16 @@
 -- The calls for C: what each answers as one 64-bit number, the result or 2^32 plus the number of the refusal, and what it leaves in the
 -- buffers.
-use Rattle.std.specs.Prelude.{ℕ, ◌≡◌, List, length}
+use Rattle.std.specs.Prelude.{ℕ, ◌+◌, ◌^◌, ◌≡◌, List, length, Result, Ok, Err}
 use Rattle.wire.specs.Answer.{Answer, result, and_then, coded}
+use Rattle.wire.specs.Refusals.{question}
 use Rattle.frames.specs.Join.{join_of, out_after, marks_after}
 use Rattle.frames.specs.Cut.{cut_of, after_cut}
 use Rattle.tls.specs.Make.{make_of, after_make}
 use Rattle.tls.specs.declared.Hello.{Hello}
 use Rattle.fingerprint.specs.ClientHello.{ClientHello}
+use Rattle.fingerprint_layout.specs.Layout.{ReportCoded}
+use Rattle.crustdelta_c.specs.declared.NoReport.{NoReport}
+use Rattle.crustdelta_c.specs.declared.NoReport.TheVariants.{Refused, NoRoom}
 
 -- the maker: of its answer one part, as the length
 abbrev pub length_of : Hello → ℕ
@@ -19,6 +23,18 @@ pub record MakeCoded (part : Hello → ℕ) (browser : ℕ) (name scid tape old 
 -- the reader, without its report: 0 where the hello is accepted
 unfoldable pub read_answer : Answer ClientHello → ℕ
 read_answer a = coded (and_then a (λ v. result 0))
+
+-- the writer of a report: why there is none is the refusal, or 100, which no question of document 01 has
+abbrev pub reason_number : NoReport → ℕ
+reason_number (Refused e) = question e
+reason_number NoRoom = 100
+
+abbrev pub coded_report : Result ℕ NoReport → ℕ
+coded_report (Ok n) = n
+coded_report (Err reason) = 2 ^ 32 + reason_number reason
+
+abbrev pub Reports : Answer ClientHello → List ℕ → Result ℕ NoReport → List ℕ → Type 0
+Reports a old r new = ReportCoded a old (coded_report r) new
 
 -- the joiner
 pub record JoinCoded (bs out marks : List ℕ) (r : ℕ) (out' marks' : List ℕ) : Type 0 where

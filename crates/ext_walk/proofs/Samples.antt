@@ -1,7 +1,6 @@
 -- Closed hellos: what the definitions of the walk say of them. The contracts of `new`, `step` and `first` are equations with these, so a
 -- program that answers one of them otherwise does not meet its own; the comments name such programs as ruled out. What `moved` does its
--- contract says outright. None of this is an edit that must fail: the four are proved by walks of their code by hand, and such a walk
--- refuses any other code by its form, whatever it does. Assumes nothing.
+-- contract says outright. Assumes nothing.
 use mathlib.Core.Path.{◌≡◌, refl}
 use Prim.Native.Nat.{ℕ}
 use mathlib.Core.List.{List, [], ◌∷◌, ◌++◌, map}
@@ -12,8 +11,9 @@ use Rattle.fingerprint_bodies.specs.Forms.{words_in, even_words}
 use Rattle.fingerprint_lists.specs.Arrays.{ext_type}
 use Rattle.fingerprint.specs.Reader.{one_extension, after_suites, after_session, fields, read_body, read_fields}
 use Rattle.fingerprint.proofs.Samples.{hello_of, hello_with, grouped}
-use Rattle.ext_walk.specs.Steps.{step_at, first_extension}
-use Rattle.ext_walk.specs.declared.Reached.TheVariants.{Extension, End, Refused}
+use Rattle.std.specs.Prelude.{Ok, Err, None}
+use Rattle.wire.specs.declared.refusals.Refusal.TheVariants as no
+use Rattle.ext_walk.specs.Steps.{stands, step_at, first_extension}
 
 -- groups from 47 to 55, and an extension whose body is not there
 abbrev pub cut_late : List ℕ
@@ -28,6 +28,6 @@ unfolding
 first-places = refl
 
 -- steps at three places. Ruled out: a step that is not at the walk's place; a body with its header; a cut extension that is the end
-pub reached : map (step_at cut_late) (47 ∷ 55 ∷ 59 ∷ []) ≡ Extension (ext_type 0x000a) 51 55 ∷ Refused 20 ∷ End ∷ []
+pub reached : map (step_at cut_late) (47 ∷ 55 ∷ 59 ∷ []) ≡ stands (ext_type 0x000a) 51 55 ∷ Err no.ExtensionCut ∷ Ok None ∷ []
 unfolding hello_of hello_with vector digits number number_on vector_at number_at taken bind one_extension step_at
 reached = refl

@@ -12,11 +12,12 @@ use Rattle.wire.proofs.ListLaws.{length_part}
 use Rattle.fingerprint_lists.specs.Arrays.{ext_type}
 use Rattle.fingerprint.specs.Reader.{one_extension, Fields, read_fields}
 use Rattle.fingerprint.specs.Code.{HeaderFound}
-use Rattle.ext_walk.specs.Steps.{step_to, step_at, first_extension}
-use Rattle.ext_walk.specs.declared.Reached.TheVariants.{Extension, End, Refused}
+use Rattle.std.specs.Prelude.{Ok, Err, None}
+use Rattle.wire.specs.declared.refusals.Refusal.TheVariants as no
+use Rattle.ext_walk.specs.Steps.{stands, step_to, step_at, first_extension}
 
 module _ (h : List ℕ) (at : ℕ) where
-  pub step_end : length h ≤ at → step_at h at ≡ End
+  pub step_end : length h ≤ at → step_at h at ≡ Ok None
   unfolding step_at
   step_end l = rw (drop_of_length-le h {i = at} l)
 
@@ -27,10 +28,10 @@ module _ (h : List ℕ) (at : ℕ) where
       let here : drop at h ≡ get_or h at 0 ∷ drop (suc at) h = drop-cons h at 0 l in
       rw here
 
-  pub step_cut : at < length h → one_extension (drop at h) ≡ none → step_at h at ≡ Refused 20
+  pub step_cut : at < length h → one_extension (drop at h) ≡ none → step_at h at ≡ Err no.ExtensionCut
   step_cut l e = rw (step-here l, e)
 
-  pub step-found : (t start end : ℕ) → HeaderFound h at t start end → step_at h at ≡ Extension (ext_type t) start end
+  pub step-found : (t start end : ℕ) → HeaderFound h at t start end → step_at h at ≡ stands (ext_type t) start end
   step-found t start end f =
       let last : length h - (length h - end) ≡ end = omega (arith, f.inside) in
       let first : end - (end - start) ≡ start = omega (arith, f.forward) in
@@ -42,7 +43,7 @@ module _ (h : List ℕ) where
   first-refused n e = rw e
 
   -- such a walk is at its end
-  pub refused_end : (n : ℕ) → read_fields h ≡ refused n → step_at h (first_extension h) ≡ End
+  pub refused_end : (n : ℕ) → read_fields h ≡ refused n → step_at h (first_extension h) ≡ Ok None
   refused_end n e = rw (first-refused n e) (step_end h (length h) (le_refl (length h)))
 
   pub first_found : (f : Fields) (block : ℕ) → block ≤ length h → read_fields h ≡ result f → f.block ≡ drop block h → first_extension h ≡ block

@@ -26,8 +26,10 @@ use Rattle.fingerprint.specs.Report.{report}
 use Rattle.fingerprint.specs.Code.{HeaderFound}
 use Rattle.fingerprint.proofs.StepLaws.{head-short, head-long, head-found}
 use Rattle.fingerprint.proofs.WalkTrips.{in_form-result, walk_none, walk_turn}
-use Rattle.ext_walk.specs.Steps.{step_at, steps, all_steps}
-use Rattle.ext_walk.specs.declared.Reached.TheVariants as step
+use Rattle.std.specs.Prelude.{Ok, Err, None}
+use Rattle.wire.specs.declared.refusals.Refusal.{Refusal}
+use Rattle.ext_walk.specs.declared.Extension as code
+use Rattle.ext_walk.specs.Steps.{Reached, stands, step_at, steps, all_steps}
 use Rattle.ext_walk.proofs.StepLaws.{step_end, step_cut, step-found, first_found}
 use Rattle.ext_walk.proofs.BlockLaws.{block-ends}
 
@@ -50,23 +52,24 @@ there h at r e =
 
 -- ---- what a step says
 
-apart-end : {t : ExtType} {a b : ℕ} → step.End ≡ step.Extension t a b → ⊥
+apart-end : {t : ExtType} {a b : ℕ} → ◌≡◌ {A = Reached} (Ok None) (stands t a b) → ⊥
 apart-end e = let z : ◌≡◌ {A = ℕ} 0 1 = cc in omega arith
 
-apart-refused : {n : ℕ} {t : ExtType} {a b : ℕ} → step.Refused n ≡ step.Extension t a b → ⊥
+apart-refused : {n : Refusal} {t : ExtType} {a b : ℕ} → ◌≡◌ {A = Reached} (Err n) (stands t a b) → ⊥
 apart-refused e = let z : ◌≡◌ {A = ℕ} 0 1 = cc in omega arith
 
 -- the range of a step's body lies inside the hello, after the header, and holds the bytes that the reader takes; its end is where the
 -- reader goes on
-pub step_range : (h : List ℕ) (at : ℕ) (t : ExtType) (start end : ℕ) → step_at h at ≡ step.Extension t start end → HeaderFound h at t.0 start end
+pub step_range : (h : List ℕ) (at : ℕ) (t : ExtType) (start end : ℕ) → step_at h at ≡ stands t start end → HeaderFound h at t.0 start end
 step_range h at t start end e =
     ⊎_elim (λ here. go here (one_extension (drop at h)) refl) (λ past. absurd (apart-end (sym (step_end h at past) ∙ e))) (lt-or-le at (length h))
   where
-    same : (w : There h at) → step.Extension (ext_type w.type) w.start w.end ≡ step.Extension t start end → HeaderFound h at t.0 start end
+    same : (w : There h at) → ◌≡◌ {A = Reached} (stands (ext_type w.type) w.start w.end) (stands t start end) → HeaderFound h at t.0 start end
     same w i =
-        let first : ext_type w.type ≡ t = cc in
-        let second : w.start ≡ start = cc in
-        let third : w.end ≡ end = cc in
+        let whole : ◌≡◌ {A = code.Extension} (record { ext_type = ext_type w.type; start = w.start; end = w.end }) (record { ext_type = t; start = start; end = end }) = cc in
+        let first : ext_type w.type ≡ t = ap (λ (x : code.Extension). x.ext_type) whole in
+        let second : w.start ≡ start = ap (λ (x : code.Extension). x.start) whole in
+        let third : w.end ≡ end = ap (λ (x : code.Extension). x.end) whole in
         subst (λ (k : ExtType). HeaderFound h at k.0 start end) first
         (subst (λ (k : ℕ). HeaderFound h at w.type k end) second (subst (λ (k : ℕ). HeaderFound h at w.type w.start k) third w.found))
 

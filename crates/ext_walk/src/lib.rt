@@ -6,9 +6,18 @@
 ghost use Rattle.std.specs.Prelude.{◌≡◌};
 ghost use Rattle.ext_walk.specs.Steps.{step_at, first_extension};
 
-use fingerprint::head::{Head, read_fields};
-use fingerprint::walk::{Header, read_header};
+use fingerprint::head::read_fields;
+use fingerprint::walk::read_header;
 use profiles::ExtType;
+use wire::Refusal;
+
+// An extension, by its type and the ends of its body, where the next one begins too.
+#[derive(Clone, Copy, PartialEq, Eq, Debug)]
+pub struct Extension {
+    pub ext_type: ExtType,
+    pub start: usize,
+    pub end: usize,
+}
 
 // A hello and a place in it.
 #[derive(Clone, Copy)]
@@ -17,25 +26,48 @@ pub struct ExtensionWalk<'a> {
     pub at: usize,
 }
 
-// An extension, by its type and the ends of its body, where the next one begins too; the hello's end; or the number of the refusal.
-#[derive(Clone, Copy)]
-pub enum Reached {
-    Extension(ExtType, usize, usize),
-    End,
-    Refused(u64),
+impl<'a> ExtensionWalk<'a> {
+    // The walk begins at the first extension.
+    pub fn new(hello: &'a [u8]) -> ExtensionWalk<'a>
+        ensures { (result.hello ≡ hello.entry) × (result.at ≡ first_extension hello.now) }
+    {
+        ExtensionWalk {
+            hello,
+            at: first_extension(hello),
+        }
+    }
+
+    // What stands where the walk is.
+    pub fn step(self) -> Result<Option<Extension>, Refusal>
+        ensures { result ≡ step_at self.entry.hello.now self.entry.at }
+    {
+        step_at(self.hello, self.at)
+    }
+
+    // The walk at another place: the end of an extension's body is the place of the next.
+    pub fn moved(self, at: usize) -> ExtensionWalk<'a>
+        ensures { (result.hello ≡ self.entry.hello) × (result.at ≡ at) }
+    {
+        ExtensionWalk {
+            hello: self.hello,
+            at,
+        }
+    }
 }
 
-// The extension at a place: header and body inside the block? 20
-pub fn step_at(hello: &[u8], at: usize) -> Reached
+// The extension at a place, or none at the hello's end: header and body inside the block? 20
+pub fn step_at(hello: &[u8], at: usize) -> Result<Option<Extension>, Refusal>
     ensures { result ≡ step_at hello.now at }
 {
     if hello.len() <= at {
-        return Reached::End;
+        return Ok(None);
     }
-    match read_header(hello, at) {
-        Header::At(t, start, end) => Reached::Extension(ExtType(t), start, end),
-        Header::Cut => Reached::Refused(20),
-    }
+    let header = read_header(hello, at).ok_or(Refusal::ExtensionCut)?;
+    Ok(Some(Extension {
+        ext_type: ExtType(header.ext_type),
+        start: header.start,
+        end: header.end,
+    }))
 }
 
 // The place of the first extension, where the fields before it pass questions 16 to 19; else the hello's end.
@@ -43,41 +75,14 @@ pub fn first_extension(hello: &[u8]) -> usize
     ensures { result ≡ first_extension hello.now }
 {
     match read_fields(hello) {
-        Head::Fields(_, _, block) => block,
-        Head::Refused(_) => hello.len(),
-    }
-}
-
-// The walk begins at the first extension.
-pub fn new<'a>(hello: &'a [u8]) -> ExtensionWalk<'a>
-    ensures { (result.hello ≡ hello.entry) × (result.at ≡ first_extension hello.now) }
-{
-    ExtensionWalk {
-        hello,
-        at: first_extension(hello),
-    }
-}
-
-// What stands where the walk is.
-pub fn step<'a>(walk: ExtensionWalk<'a>) -> Reached
-    ensures { result ≡ step_at walk.entry.hello.now walk.entry.at }
-{
-    step_at(walk.hello, walk.at)
-}
-
-// The walk at another place: the end of an extension's body is the place of the next.
-pub fn moved<'a>(walk: ExtensionWalk<'a>, at: usize) -> ExtensionWalk<'a>
-    ensures { (result.hello ≡ walk.entry.hello) × (result.at ≡ at) }
-{
-    ExtensionWalk {
-        hello: walk.hello,
-        at,
+        Ok(head) => head.block,
+        Err(_) => hello.len(),
     }
 }
 
 // The first extension, for callers that hold a plain slice.
-pub fn first(hello: &[u8]) -> Reached
+pub fn first(hello: &[u8]) -> Result<Option<Extension>, Refusal>
     ensures { result ≡ step_at hello.now (first_extension hello.now) }
 {
-    step(new(hello))
+    ExtensionWalk::new(hello).step()
 }

@@ -15,7 +15,7 @@ use Rattle.fingerprint_bodies.specs.Body.{kind}
 use Rattle.fingerprint_bodies.specs.Forms.{body_of, ids_new, within_counts}
 use Rattle.fingerprint.specs.ClientHello.{Extension, ClientHello, type_of}
 use Rattle.fingerprint.specs.Reader.{in_form, Raw, one_extension, ask_body, extension, walk, all_extensions, Fields, fields, read_extensions, read_body, read_fields, read}
-use Rattle.fingerprint.specs.Report.{report, empty_report, shown, parsed_of}
+use Rattle.fingerprint.specs.Report.{report, empty_report, shown, parsed_of, told_report}
 use Rattle.fingerprint.proofs.WellFormed.{Encodes, accepted-exactly}
 
 -- ---- the numbers of the reader's refusals
@@ -84,19 +84,19 @@ read-numbered h = numbered-then (read_fields h) read_extensions (before-numbered
 
 pub record ReportedExactly (h : List ℕ) : Type 0 where
   -- a well-formed hello: 0, and its report
-  pub accepted : (v : ClientHello) → Encodes v h → parsed_of (read h) ≡ shown 0 (report v)
+  pub accepted : (v : ClientHello) → Encodes v h → told_report (read h) ≡ record { number = 0; values = shown (report v) }
   -- 0 is said of well-formed hellos only
-  pub only : (parsed_of (read h)).number ≡ 0 → (v : ClientHello) × Encodes v h
+  pub only : (told_report (read h)).number ≡ 0 → (v : ClientHello) × Encodes v h
   -- all else is refused
-  pub refusal : ((v : ClientHello) → Encodes v h → ⊥) → (n : ℕ) × FromReader n × (parsed_of (read h) ≡ shown n empty_report)
+  pub refusal : ((v : ClientHello) → Encodes v h → ⊥) → (n : ℕ) × FromReader n × (told_report (read h) ≡ record { number = n; values = shown empty_report })
 
-only_zero : (a : Answer ClientHello) → Numbered a → (parsed_of a).number ≡ 0 → (v : ClientHello) × (a ≡ result v)
-unfolding parsed_of shown
+only_zero : (a : Answer ClientHello) → Numbered a → (told_report a).number ≡ 0 → (v : ClientHello) × (a ≡ result v)
+unfolding parsed_of
 only_zero (result v) f e = (v, refl)
 only_zero (refused n) f e = absurd (omega (arith, e, f.0))
 
 refusal-empty : (a : Answer ClientHello) → Numbered a → ((v : ClientHello) → a ≡ result v → ⊥)
-    → (n : ℕ) × FromReader n × (parsed_of a ≡ shown n empty_report)
+    → (n : ℕ) × FromReader n × (told_report a ≡ record { number = n; values = shown empty_report })
 unfolding parsed_of
 refusal-empty (result v) f g = absurd (g v refl)
 refusal-empty (refused n) f g = (n, f, refl)
@@ -105,7 +105,7 @@ pub reported-exactly : (h : List ℕ) → Bytes h → ReportedExactly h
 unfolding parsed_of
 reported-exactly h b =
     record {
-      accepted = λ v w. ap parsed_of ((accepted-exactly h b v).1 w);
+      accepted = λ v w. ap told_report ((accepted-exactly h b v).1 w);
       only = λ e. let r = only_zero (read h) (read-numbered h) e in (r.0, (accepted-exactly h b r.0).0 r.1);
       refusal = λ g. refusal-empty (read h) (read-numbered h) (λ v e. g v ((accepted-exactly h b v).0 e));
     }

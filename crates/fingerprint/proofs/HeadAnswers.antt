@@ -1,46 +1,38 @@
 -- The answers of the code that reads the head, from what it found. Assumes nothing.
 use Prim.Native.Nat.{ℕ, ◌+◌, ◌-◌, ◌%◌, ◌≤◌, ◌<◌}
-use lib.Dec.{lit≤}
 use mathlib.Core.Path.{◌≡◌, refl, sym, ap, ◌∙◌}
 use mathlib.Core.List.{List, []}
 use mathlib.Core.Option.{Option, none}
 use native.Mathlib.Omega.{arith}
 use borrow.Author.Tests.{le-leb, lt-leb}
 use lib.ListN.{length, take, drop, get_or}
-use Rattle.wire.specs.Answer.{result, refused, IsNumber}
+use Rattle.std.specs.Prelude as std
+use Rattle.std.specs.Prelude.{Some, None}
+use Rattle.wire.specs.Answer.{result, refused}
 use Rattle.wire.specs.Numbers.{number}
 use Rattle.fingerprint_bodies.specs.Forms.{words_in}
 use Rattle.fingerprint_bodies.proofs.FormLaws.{length-words-in}
 use Rattle.fingerprint_lists.specs.Arrays.{span}
-use Rattle.fingerprint_lists.specs.declared.Span.{Span}
+use Rattle.fingerprint.specs.declared.head.Head.{Head}
 use Rattle.fingerprint.specs.Reader.{Fields, in_form, after_suites, read_fields, read_extensions, read}
 use Rattle.fingerprint.specs.Code.{FieldsFound, HeadFound, BeforeSuites, BlockFound, BlockAs, EndAs}
-use Rattle.fingerprint.specs.declared.head.Place.{Place}
-use Rattle.fingerprint.specs.declared.head.Place.TheVariants as place
 use Rattle.fingerprint.proofs.HeadLaws.{suites-length, suites-there, compression-length, block-cut, block-there}
 
--- the answer `Refused n`
-abbrev pub RefusedWith : ℕ → List ℕ → Type 0
-RefusedWith n h = (read_fields h ≡ refused n) × IsNumber n
-
-pub refused-with : (n : ℕ) (h : List ℕ) → IsNumber n → read_fields h ≡ refused n → RefusedWith n h
-refused-with n h i e = (e, i)
-
 -- fields that are not in their form
-pub not-in-form : (h : List ℕ) (x : Option Fields) → read_fields h ≡ in_form x 19 result → x ≡ none → RefusedWith 19 h
-not-in-form h x is e = (is ∙ rw e, (lit≤ tt, lit≤ tt))
+pub not-in-form : (h : List ℕ) (x : Option Fields) → read_fields h ≡ in_form x 19 result → x ≡ none → read_fields h ≡ refused 19
+not-in-form h x is e = is ∙ rw e
 
 -- what the block's place says, after compression of n bytes
 module _ (h : List ℕ) (at : ℕ) (room : 1 ≤ length h - at) (n : ℕ) (is : get_or h at 0 ≡ n) (some-there : 1 ≤ n) (within : n ≤ length h - at - 1) where
-  pub block-as : (r : Place) → EndAs r h (at + 1 + n) → BlockAs r h at
-  block-as (place.At b) (e, at-is, inside) =
+  pub block-as : (r : std.Option ℕ) → EndAs r h (at + 1 + n) → BlockAs r h at
+  block-as (Some b) (e, at-is, inside) =
       record {
         compression = take n (drop (at + 1) h);
         is = λ version random id suites. block-there version random id suites h at room n is some-there within b e;
         place = omega (arith, at-is, compression-length [] [] [] [] h at room n is some-there within);
         inside = inside;
       }
-  block-as place.Cut e = λ version random id suites. block-cut version random id suites h at room n is some-there within e
+  block-as None e = λ version random id suites. block-cut version random id suites h at room n is some-there within e
 
 -- the suites' bytes are there, n of them
 module _
@@ -62,7 +54,7 @@ module _
         ∙ ap (λ (x : Option Fields). in_form x 19 result)
         (suites-there before.version before.random before.id h (39 + session) before.inside room n is some-there even within)
 
-    pub block-not-there : ((version random id suites : List ℕ) → after_suites version random id suites (drop (39 + session + 2 + n) h) ≡ none) → RefusedWith 19 h
+    pub block-not-there : ((version random id suites : List ℕ) → after_suites version random id suites (drop (39 + session + 2 + n) h) ≡ none) → read_fields h ≡ refused 19
     block-not-there none-there =
         not-in-form h (after_suites before.version before.random before.id (words_in part) (drop (39 + session + 2 + n) h)) on-suites
         (none-there before.version before.random before.id (words_in part))
@@ -81,7 +73,7 @@ module _
       part_length : length part ≡ n
       part_length = suites-length before.version before.random before.id h (39 + session) before.inside room n is within
 
-      pub fields-there : FieldsFound h session (span (39 + session + 2) n) b
+      pub fields-there : FieldsFound h (record { session = session; suites = span (39 + session + 2) n; block = b })
       fields-there =
           record {
             found = found-fields;
@@ -99,16 +91,16 @@ module _
           }
 
 -- the reader goes on from the fields: more than 64 suites are refused
-module _ {h : List ℕ} {session : ℕ} {suites : Span} {block : ℕ} (fields : FieldsFound h session suites block) where
+module _ {h : List ℕ} {head : Head} (fields : FieldsFound h head) where
   on-extensions : read h ≡ read_extensions fields.found
   unfolding read
   on-extensions = rw fields.is
 
-  pub many-suites : 128 < suites.length → (read h ≡ refused 23) × IsNumber 23
+  pub many-suites : 128 < head.suites.length → read h ≡ refused 23
   unfolding read_extensions
-  many-suites k = (on-extensions ∙ rw (lt-leb (length fields.found.cipher_suites) 64 (omega (arith, fields.suites-even))), (lit≤ tt, lit≤ tt))
+  many-suites k = on-extensions ∙ rw (lt-leb (length fields.found.cipher_suites) 64 (omega (arith, fields.suites-even)))
 
-  pub head-there : suites.length ≤ 128 → HeadFound h session suites block
+  pub head-there : head.suites.length ≤ 128 → HeadFound h head
   unfolding read_extensions
   head-there k =
       record {
@@ -125,6 +117,6 @@ module _ {h : List ℕ} {session : ℕ} {suites : Span} {block : ℕ} (fields : 
       }
 
 -- a refusal of the fields is the reader's
-pub fields-refused : (h : List ℕ) (n : ℕ) → RefusedWith n h → (read h ≡ refused n) × IsNumber n
+pub fields-refused : (h : List ℕ) (n : ℕ) → read_fields h ≡ refused n → read h ≡ refused n
 unfolding read
-fields-refused h n (e, i) = (rw e, i)
+fields-refused h n e = rw e

@@ -16,7 +16,9 @@ use Rattle.fingerprint_bodies.specs.Body.{transport-parameters, Parameter, Kind,
 use Rattle.fingerprint_bodies.specs.Forms.{transport_parameters, id_of, body_of}
 use Rattle.fingerprint_bodies.specs.Code.{asked}
 use Rattle.fingerprint_parameters.specs.Code.{ids_in, AskedIds}
-use Rattle.fingerprint_parameters.specs.declared.Asked.{Asked}
+use Rattle.std.specs.Prelude.{Result, Ok, Err}
+use Rattle.wire.specs.Refusals.{question}
+use Rattle.wire.specs.declared.refusals.Refusal.{Refusal}
 use Rattle.fingerprint_lists.specs.Arrays.{padded}
 use Rattle.fingerprint_lists.proofs.FillLaws.{padded-none}
 use Rattle.fingerprint.specs.ClientHello.{Extension, type_of, encode_extensions}
@@ -42,20 +44,20 @@ written l = ap (λ (r : List ℕ). l ++ r) (drop-zeros (length l) 64)
 
 -- ---- the answer to the questions of a body
 
-pub body-without : (k : Kind) (bs ids : List ℕ) (r : Asked) (n : ℕ) → r ≡ record { number = n; ids = 0 } → n ≡ asked k bs → ids_held k bs ≡ [] → length ids ≡ 64
-    → BodyAsked k bs r ids ids
-body-without k bs ids r n e q none l =
+-- a kind of body that holds no ids is asked by its own reader, and then none are gained
+pub body-without : (k : Kind) (bs ids : List ℕ) → ids_held k bs ≡ [] → length ids ≡ 64 → asked k bs ≡ 0 → BodyAsked k bs (Ok 0) ids ids
+body-without k bs ids none l q =
     record {
-      is = ap (λ (a : Asked). a.number) e ∙ q;
-      gained = λ z. record { count-is = ap (λ (a : Asked). a.ids) e ∙ sym (ap length none); output = rw none (front-none ids); size = l };
+      is = sym q;
+      gained = record { count-is = sym (ap length none); output = rw none (front-none ids); size = l };
     }
 
-pub body-parameters : (bs : List ℕ) (r : Asked) (old new : List ℕ) → AskedIds bs r old new → BodyAsked parameters bs r old new
-body-parameters bs r old new a =
-    record {
-      is = a.is;
-      gained = λ z. record { count-is = a.count z; output = a.output z; size = a.size };
-    }
+pub body-refused : (k : Kind) (bs old new : List ℕ) (e : Refusal) → question e ≡ asked k bs → BodyAsked k bs (Err e) old new
+body-refused k bs old new e q = record { is = q; gained = tt }
+
+pub body-parameters : (bs : List ℕ) (r : Result ℕ Refusal) (old new : List ℕ) → AskedIds bs r old new → BodyAsked parameters bs r old new
+body-parameters bs (Ok n) old new a = record { is = a.is; gained = record { count-is = a.count; output = a.output; size = a.size } }
+body-parameters bs (Err e) old new a = record { is = a.is; gained = tt }
 
 -- ---- how many there may be
 

@@ -9,7 +9,6 @@ pub mod NoteLaws
 pub mod WalkLaws
 pub mod NameLaws
 pub mod ReportLaws
-pub mod PlaceLaws
 pub mod RisingLaws
 -- what is well formed
 pub mod WalkTrips

@@ -24,7 +24,7 @@ use Rattle.fingerprint_lists.specs.declared.Span.{Span}
 use Rattle.fingerprint.specs.ClientHello.{Extension}
 use Rattle.fingerprint.specs.Report.{names_in, gathered, first_of}
 use Rattle.fingerprint.specs.Code.{part_of, Noted, name_in}
-use Rattle.fingerprint.specs.declared.Sni.TheVariants.{At, Absent}
+use Rattle.std.specs.Prelude.{Some, None}
 
 -- ---- A name in its form is its body without the first five bytes
 
@@ -108,17 +108,17 @@ module _ (h : List ℕ) (block : ℕ) (es : List Extension) (s : Span) (n : Note
 
 -- ---- What the answer of name_in says
 
-at-absent : (p : Span) → At p ≡ Absent → ⊥
+at-absent : (p : Span) → Some p ≡ None → ⊥
 at-absent p e = let z : ◌≡◌ {A = ℕ} 0 1 = cc in omega arith
 
-same_at : (p q : Span) → At p ≡ At q → p ≡ q
+same_at : (p q : Span) → Some p ≡ Some q → p ≡ q
 same_at p q e = cc
 
-pub absent-short : (s : Span) → name_in s ≡ Absent → s.length < 5
+pub absent-short : (s : Span) → name_in s ≡ None → s.length < 5
 unfolding name_in
 absent-short s e = ⊎_elim (λ k. k) (λ k. absurd (at-absent _ (rw (le-ltb s.length 5 k) at e))) (lt-or-le s.length 5)
 
-pub name-long : (s p : Span) → name_in s ≡ At p → (5 ≤ s.length) × (p ≡ span (s.start + 5) (s.length - 5))
+pub name-long : (s p : Span) → name_in s ≡ Some p → (5 ≤ s.length) × (p ≡ span (s.start + 5) (s.length - 5))
 unfolding name_in
 name-long s p e = ⊎_elim short long (lt-or-le s.length 5)
   where

@@ -1,33 +1,39 @@
 -- The report from what was found: each field is that of the ClientHello. Assumes nothing.
 use Prim.Native.Nat.{ℕ, zero, suc, ◌+◌, ◌-◌, ◌≤◌, ◌<◌}
 use mathlib.Core.Path.{◌≡◌, refl, sym, ap, ◌∙◌, subst}
-use mathlib.Core.List.{List, [], ◌∷◌, ◌++◌, map, map-map, map-id, map-append}
+use mathlib.Core.List.{List, [], ◌∷◌, ◌++◌, map, map-append}
 use mathlib.Core.Logic.{⊎_elim}
 use Rattle.wire.proofs.ListLaws.{lt-or-le}
 use native.Mathlib.Omega.{arith}
 use lib.ListN.{length, take, drop, replicate, length-map, length-append, length-replicate}
-use lib.Seq.{take_at}
+use lib.Seq.{take_at, drop-append_seam}
+use Rattle.std.specs.List.Sorted.{IsPermutation, IsNonDecreasing}
 use borrow.Author.Tests.{lt-ltb, le-ltb}
-use Rattle.wire.specs.Answer.{Answer, result, refused}
+use Rattle.std.specs.Prelude as std
+use Rattle.std.specs.Prelude.{Some, None, Result, Ok, Err}
+use Rattle.wire.specs.Answer.{Answer, result, refused, told}
+use Rattle.wire.specs.Refusals.{answer_of, told_of, told_number}
+use Rattle.wire.proofs.AnswerLaws.{told-answer}
+use Rattle.wire.specs.declared.refusals.Refusal.{Refusal}
 use Rattle.profiles.specs.declared.ExtType.{ExtType}
 use Rattle.fingerprint_bodies.specs.Entries.{or_empty}
 use Rattle.fingerprint_bodies.specs.Body.{Kind, name, groups, algorithms, protocols, versions, shares}
 use Rattle.fingerprint_bodies.specs.Forms.{words_in, word_list, protocol_names, key_shares, group_of}
 use Rattle.fingerprint_bodies.specs.Code.{asked, Good}
 use Rattle.fingerprint_bodies.proofs.AskLaws.{asked-groups, asked-algorithms, asked-protocols, asked-versions, asked-shares}
-use Rattle.fingerprint_lists.specs.Arrays.{ext_type, span, padded, placed, words_of, groups_of, spans_of}
+use Rattle.fingerprint_lists.specs.Arrays.{ext_type, span, padded, placed, words_of, groups_of, spans_of, types_of}
 use Rattle.fingerprint_lists.specs.declared.Span.{Span}
 use Rattle.fingerprint_lists.specs.declared.Words.{Words}
 use Rattle.fingerprint_lists.specs.declared.Groups.{Groups}
 use Rattle.fingerprint_lists.specs.declared.Spans.{Spans}
 use Rattle.fingerprint.specs.ClientHello.{Extension, ClientHello, type_of}
 use Rattle.fingerprint.specs.Reader.{with_extensions, all_extensions, read}
-use Rattle.fingerprint.specs.Report.{report, block_place, gathered, names_in, first_of, sni_of, empty_report, shown, parsed_of, number_of}
-use Rattle.fingerprint.specs.Calls.{rising, extension_set, bytes_or, name_or}
-use Rattle.fingerprint.specs.Code.{part_of, HeadFound, Noted, IdsFound, Surveyed, note_of, name_in, Readable, FoundOf, SurveyAs, type_number}
+use Rattle.fingerprint.specs.Report.{report, block_place, gathered, names_in, first_of, sni_of, empty_report, shown, parsed_of, told_report, number_of}
+use Rattle.fingerprint.specs.Calls.{extension_set, bytes_or, name_or}
+use Rattle.fingerprint.proofs.RisingLaws.{sorted-is}
+use Rattle.fingerprint.specs.Code.{part_of, HeadFound, Noted, IdsFound, Surveyed, note_of, name_in, Readable, FoundOf, ReadAs}
 use Rattle.fingerprint.specs.declared.Fingerprint.{Fingerprint}
-use Rattle.fingerprint.specs.declared.Sni.{Sni}
-use Rattle.fingerprint.specs.declared.Sni.TheVariants.{At, Absent}
+use Rattle.fingerprint.specs.declared.head.Head.{Head}
 use Rattle.fingerprint.specs.declared.walk.Survey.{Survey}
 use Rattle.fingerprint.proofs.NameLaws.{length-part-of, name-absent, name-there, absent-short, name-long}
 
@@ -60,7 +66,7 @@ types-padded m l = rw (length-map l ext_type) (map-append ext_type l (replicate 
 -- ---- The report from its lists
 
 -- what the lists' functions ask of the bodies
-module _ {h : List ℕ} {suites : Span} {r : Survey} (p : Readable h suites r) where
+module _ {h : List ℕ} {head : Head} {r : Survey} (p : Readable h head r) where
   pub length-note : (k : Kind) → length (part_of h (note_of r k)) ≡ (note_of r k).length
   length-note k = length-part-of h (note_of r k) (p.inside k)
 
@@ -82,9 +88,9 @@ module _ {h : List ℕ} {suites : Span} {r : Survey} (p : Readable h suites r) w
   pub good-shares : Good 64 key_shares (part_of h (note_of r shares))
   good-shares l = sym (asked-shares (part_of h (note_of r shares))) ∙ good shares l
 
-pub report-shown : {h : List ℕ} {session : ℕ} {suites : Span} {found : Survey} {types ids : List ℕ} {v : ClientHello} → FoundOf h session suites found types ids v
-    → (suite-list : Words) (type-list : List ExtType) (group-list share-list : Groups) (algorithm-list version-list : Words) (names : Spans) (sni : Sni)
-    → suite-list ≡ words_of (words_in (part_of h suites))
+pub report-shown : {h : List ℕ} {head : Head} {found : Survey} {types ids : List ℕ} {v : ClientHello} → FoundOf h head found types ids v
+    → (suite-list : Words) (type-list : List ExtType) (group-list share-list : Groups) (algorithm-list version-list : Words) (names : Spans) (sni : std.Option Span)
+    → suite-list ≡ words_of (words_in (part_of h head.suites))
     → type-list ≡ map ext_type types
     → group-list ≡ groups_of (or_empty (word_list 2 (part_of h (note_of found groups))))
     → share-list ≡ groups_of (map group_of (or_empty (key_shares (part_of h (note_of found shares)))))
@@ -93,8 +99,7 @@ pub report-shown : {h : List ℕ} {session : ℕ} {suites : Span} {found : Surve
     → names ≡ spans_of (placed ((note_of found protocols).start + 2) (or_empty (protocol_names (part_of h (note_of found protocols)))))
     → sni ≡ name_in (note_of found name)
     → record {
-      number = 0;
-      legacy_session_id_len = session;
+      legacy_session_id_len = head.session;
       cipher_suites = suite-list.items;
       suite_count = suite-list.count;
       extensions = type-list;
@@ -112,9 +117,9 @@ pub report-shown : {h : List ℕ} {session : ℕ} {suites : Span} {found : Surve
       sni = sni;
       transport_param_ids = ids;
       id_count = found.id_count;
-    } ≡ shown 0 (report v)
+    } ≡ shown (report v)
 unfolding shown report words_of groups_of spans_of
-report-shown {h} {session} {suites} {found} {types} {ids} {v} f suite-list type-list group-list share-list algorithm-list version-list names sni a t b c d e g k =
+report-shown {h} {head} {found} {types} {ids} {v} f suite-list type-list group-list share-list algorithm-list version-list names sni a t b c d e g k =
     let w : suite-list ≡ words_of v.cipher_suites = a ∙ ap words_of (sym f.suites-are) in
     let ts = t ∙ ap (map ext_type) f.types_are ∙ types-padded 64 (map type_of v.extensions) in
     let count : found.count ≡ length (map type_of v.extensions) = f.count-is ∙ sym (length-map v.extensions type_of) in
@@ -125,7 +130,6 @@ report-shown {h} {session} {suites} {found} {types} {ids} {v} f suite-list type-
     let ps = g ∙ ap spans_of (sym (f.notes protocols).shows) in
     let n = k ∙ name-shown h (block_place v) v.extensions (note_of found name) (f.notes name) in
     λ i. record {
-      number = 0;
       legacy_session_id_len = sym f.session-is i;
       cipher_suites = (w i).items;
       suite_count = (w i).count;
@@ -148,26 +152,26 @@ report-shown {h} {session} {suites} {found} {types} {ids} {v} f suite-list type-
 
 -- ---- What the head and the walk found
 
-module _ {h : List ℕ} {session : ℕ} {suites : Span} {block : ℕ} (head : HeadFound h session suites block) where
+module _ {h : List ℕ} {fields : Head} (head : HeadFound h fields) where
   -- a refusal of the walk is one of the whole
-  pub read-refused : (n : ℕ) → all_extensions (drop block h) ≡ refused n → read h ≡ refused n
+  pub read-refused : (n : ℕ) → all_extensions (drop fields.block h) ≡ refused n → read h ≡ refused n
   read-refused n e = rw (head.is, e)
 
-  module _ {found : Survey} {types ids : List ℕ} (s : Surveyed h block found types ids) where
+  module _ {found : Survey} {types ids : List ℕ} (s : Surveyed h fields.block found types ids) where
     abbrev pub hello_of : ClientHello
     hello_of = with_extensions head.found s.found
 
     pub read_result : read h ≡ result hello_of
     read_result = rw (head.is, s.is)
 
-    block-is : block ≡ block_place hello_of
+    block-is : fields.block ≡ block_place hello_of
     unfolding block_place
     block-is = omega (arith, head.place, head.session-is, head.suites-even)
 
     pub notes-of : (k : Kind) → Noted h (block_place hello_of) s.found k (note_of found k)
     notes-of k = subst (λ (n : ℕ). Noted h n s.found k (note_of found k)) block-is (s.notes k)
 
-    pub found_of : FoundOf h session suites found types ids hello_of
+    pub found_of : FoundOf h fields found types ids hello_of
     found_of = record {
       session-is = head.session-is;
       suites-are = head.suites-are;
@@ -177,7 +181,7 @@ module _ {h : List ℕ} {session : ℕ} {suites : Span} {block : ℕ} (head : He
       notes = notes-of;
     }
 
-    pub readable : Readable h suites found
+    pub readable : Readable h fields found
     readable = record {
       suites-inside = head.suites-inside;
       suites-few = head.suites-few;
@@ -196,56 +200,56 @@ module _ {h : List ℕ} {session : ℕ} {suites : Span} {block : ℕ} (head : He
     unfolding padded
     length_types = rw (s.types_are, length-append, length-replicate) (omega (arith, count-is, few-types))
 
-    types-taken : map type_number (take found.count (map ext_type types)) ≡ map type_of s.found
+    types-taken : take found.count types ≡ map type_of s.found
     unfolding padded
-    types-taken =
-        let l = map type_of s.found in
-        rw (s.types_are, types-padded 64 l, take_at (map ext_type l) (replicate (64 - length (map ext_type l)) (ext_type 0)) found.count (length-map l ext_type ∙ count-is))
-        (map-map type_number ext_type l ∙ map-id l)
+    types-taken = rw (s.types_are, take_at (map type_of s.found) (replicate (64 - length (map type_of s.found)) 0) found.count count-is)
+
+    -- zeros stand after them
+    zeros-left : drop found.count types ≡ replicate (64 - found.count) 0
+    unfolding padded
+    zeros-left = rw (s.types_are, ← count-is, drop-append_seam (map type_of s.found) (replicate (64 - length (map type_of s.found)) 0))
 
     -- ---- The answers of the calls
 
-    pub parsed-result : (r : Fingerprint) → r ≡ shown 0 (report hello_of) → r ≡ parsed_of (read h)
+    pub parsed-result : (r : Fingerprint) → r ≡ shown (report hello_of) → result r ≡ parsed_of (read h)
     unfolding parsed_of
-    parsed-result r e = rw read_result e
+    parsed-result r e = rw (read_result, e)
 
-    pub set-result : rising (map type_number (take found.count (map ext_type types))) ≡ extension_set (read h)
-    unfolding extension_set report
-    set-result = rw (read_result, types-taken)
+    -- the types sorted where they stand
+    module _ (sorted : List ℕ) (p : IsPermutation (take found.count types) sorted) (n : IsNonDecreasing sorted) (long : length sorted ≡ length (take found.count types)) where
+      set-is : sorted ≡ extension_set (read h)
+      unfolding extension_set report
+      set-is = sorted-is (take found.count types) sorted p n ∙ rw (read_result, types-taken)
+
+      sorted-long : length sorted ≡ found.count
+      sorted-long = long ∙ ap length types-taken ∙ count-is
+
+      pub set-result : record { items = map ext_type (sorted ++ drop found.count types); count = found.count } ≡ types_of (extension_set (read h))
+      unfolding types_of padded
+      set-result =
+          rw (← set-is, zeros-left, ← sorted-long) (λ i. record { items = types-padded 64 sorted i; count = length sorted })
 
     -- the name is where the note says, if the note holds one
-    pub name-default : (default : List ℕ) → name_in (note_of found name) ≡ Absent → default ≡ name_or default (read h)
+    pub name-default : (default : List ℕ) → name_in (note_of found name) ≡ None → default ≡ name_or default (read h)
     unfolding name_or bytes_or report
     name-default default e =
         rw (read_result, name-absent h (block_place hello_of) s.found (note_of found name) (notes-of name) (absent-short (note_of found name) e))
 
-    pub name-result : (default : List ℕ) (p : Span) → name_in (note_of found name) ≡ At p → part_of h p ≡ name_or default (read h)
+    pub name-result : (default : List ℕ) (p : Span) → name_in (note_of found name) ≡ Some p → part_of h p ≡ name_or default (read h)
     unfolding name_or bytes_or report
     name-result default p e =
         let l = name-long (note_of found name) p e in
         rw (read_result, name-there h (block_place hello_of) s.found (note_of found name) (notes-of name) l.0, l.1)
 
-    pub name-inside : (p : Span) → name_in (note_of found name) ≡ At p → p.start + p.length ≤ length h
+    pub name-inside : (p : Span) → name_in (note_of found name) ≡ Some p → p.start + p.length ≤ length h
     name-inside p e =
         let l = name-long (note_of found name) p e in
         rw l.1 (omega (arith, (s.notes name).inside, l.0))
 
-  pub survey-number : {found : Survey} {types ids : List ℕ} → SurveyAs h block found types ids → found.number ≡ number_of (read h)
-  unfolding number_of
-  survey-number {found} {types} {ids} a = ⊎_elim refuses accepts (lt-or-le 1 (found.number + 1))
-    where
-      refuses : 1 < found.number + 1 → found.number ≡ number_of (read h)
-      refuses k = rw (read-refused found.number (a.refuses (omega arith)))
-
-      accepts : found.number + 1 ≤ 1 → found.number ≡ number_of (read h)
-      accepts k =
-          let none-refused : found.number ≡ 0 = omega arith in
-          rw (read_result (a.accepted none-refused), none-refused)
-
 -- ---- Where the hello is refused
 
 module _ {x : Answer ClientHello} {n : ℕ} (e : x ≡ refused n) where
-  pub refused-result : shown n empty_report ≡ parsed_of x
+  pub refused-result : refused n ≡ parsed_of x
   unfolding parsed_of
   refused-result = rw e
 
@@ -256,3 +260,15 @@ module _ {x : Answer ClientHello} {n : ℕ} (e : x ≡ refused n) where
   pub set-refused : [] ≡ extension_set x
   unfolding extension_set
   set-refused = rw e
+
+-- ---- What the report's call tells in numbers is what its answer does
+
+pub parsed-tells : (r : Result Fingerprint Refusal) (x : Answer ClientHello) → answer_of r ≡ parsed_of x → told_of (shown empty_report) r ≡ told_report x
+parsed-tells r x e = told-answer (shown empty_report) r ∙ ap (told (shown empty_report)) e
+
+-- ---- The number of what the head and the walk answer is the reader's
+
+pub read-number : (h : List ℕ) (r : Result (Head × Survey) Refusal) (types ids : List ℕ) → ReadAs h r types ids → told_number r ≡ number_of (read h)
+unfolding number_of
+read-number h (Ok (fields, found)) types ids s = rw (read_result s.0 s.1)
+read-number h (Err e) types ids s = rw s

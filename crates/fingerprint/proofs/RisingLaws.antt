@@ -2,12 +2,17 @@
 use Prim.Native.Nat.{ℕ, zero, suc, ◌+◌, ◌≤◌, ◌<◌, zero-le}
 use mathlib.Core.Path.{◌≡◌, refl, sym, ap}
 use mathlib.Core.Bool.{Bool, true, false, cond}
-use mathlib.Core.List.{List, [], ◌∷◌, ◌++◌}
-use native.Mathlib.Nat.{not-suc-le-zero}
+use mathlib.Core.List.{List, [], ◌∷◌}
+use native.Mathlib.Nat.{not-suc-le-zero, le_refl}
 use native.Mathlib.Omega.{arith}
 use lib.ListN.{length, get_or}
+use mathlib.Core.Logic.{⊎_elim}
+use Rattle.std.specs.List.Sorted.{IsPermutation, IsNonDecreasing}
+use Rattle.std.specs.List.{fold}
+use Rattle.std.proofs.lemmas.List.Sorted.{sum_by-IsPermutation}
+use Rattle.wire.proofs.ListLaws.{lt-or-le}
 use lib.Dec.{leb}
-use borrow.Author.Tests.{leb-true, leb-false, eq-eqb}
+use borrow.Author.Tests.{leb-true, leb-false, le-leb, lt-leb, eq-eqb}
 use Rattle.wire.specs.Sums.{indicator, total, Permutation, count, distinct}
 use Rattle.wire.proofs.SumLaws.{length-permutes, count-permutes, count-cons, distinct-once}
 use Rattle.fingerprint.specs.Calls.{insert, insert_all, rising}
@@ -43,16 +48,6 @@ rising-permutes l f = omega (arith, insert_all-total f [] l)
 
 pub length-rising : (l : List ℕ) → length (rising l) ≡ length l
 length-rising l = sym (length-permutes l (rising l) (rising-permutes l))
-
--- the next number is put among those before it
-insert_all-snoc : (done l : List ℕ) (t : ℕ) → insert_all done (l ++ (t ∷ [])) ≡ insert t (insert_all done l)
-unfolding insert_all
-insert_all-snoc done [] t = refl
-insert_all-snoc done (x ∷ l) t = insert_all-snoc (insert x done) l t
-
-pub rising_snoc : (l : List ℕ) (t : ℕ) → rising (l ++ (t ∷ [])) ≡ insert t (rising l)
-unfolding rising
-rising_snoc l t = insert_all-snoc [] l t
 
 -- ---- In order
 
@@ -110,3 +105,45 @@ once-strict (x ∷ y ∷ l) once r (suc j) h =
 pub rising-strictly : (l : List ℕ) → distinct l ≡ true → RisesStrictly (rising l)
 rising-strictly l d =
     once-strict (rising l) (λ z. omega (arith, count-permutes z l (rising l) (rising-permutes l), distinct-once l d z)) (rising-rises l)
+
+-- ---- Only one list rises and has these elements
+
+-- how many elements are at most x
+at-most : ℕ → ℕ → ℕ
+at-most x z = indicator (leb z x)
+
+none-below : (x m : ℕ) (l : List ℕ) → x < m → From m l → total (at-most x) l ≡ 0
+unfolding total at-most
+none-below x m [] h k = refl
+none-below x m (y ∷ l) h k = omega (arith, ap indicator (lt-leb y x (omega (arith, k.0))), none-below x y l (omega (arith, k.0)) k.1)
+
+-- the first of a list that rises is in it, and so another's first is not above it
+first-below : (x y : ℕ) (a b : List ℕ) → From y b → total (at-most x) (x ∷ a) ≡ total (at-most x) (y ∷ b) → y ≤ x
+unfolding total at-most
+first-below x y a b k e = ⊎_elim (λ h. absurd (omega (arith, e, ap indicator (le-leb x x (le_refl x)), ap indicator (lt-leb y x h), none-below x y b h k))) (λ h. h) (lt-or-le x y)
+
+same-rising : (a b : List ℕ) (m n : ℕ) → From m a → From n b → Permutation a b → a ≡ b
+unfolding total
+same-rising [] [] m n j k p = refl
+same-rising [] (y ∷ b) m n j k p = absurd (omega (arith, p (λ z. 1)))
+same-rising (x ∷ a) [] m n j k p = absurd (omega (arith, p (λ z. 1)))
+same-rising (x ∷ a) (y ∷ b) m n j k p =
+    let e : x ≡ y = omega (arith, first-below x y a b k.1 (p (at-most x)), first-below y x b a j.1 (sym (p (at-most y)))) in
+    let rest : Permutation a b = λ f. omega (arith, p f, ap f e) in
+    rw e (ap (λ (l : List ℕ). y ∷ l) (same-rising a b x y j.1 k.1 rest))
+
+rises-from : (m : ℕ) (l : List ℕ) → ((j : ℕ) → j < length l → m ≤ get_or l j 0) → ((i j : ℕ) → i ≤ j → j < length l → get_or l i 0 ≤ get_or l j 0) → From m l
+rises-from m [] h r = tt
+rises-from m (x ∷ l) h r =
+    (h 0 (omega arith), rises-from x l (λ j k. r 0 (suc j) (omega arith) (omega arith)) (λ i j k q. r (suc i) (suc j) (omega arith) (omega arith)))
+
+-- what the library's sort says of a list is what `rising` makes of it
+summed : (f : ℕ → ℕ) (a : ℕ) (l : List ℕ) → fold (λ n x. n + f x) a l ≡ a + total f l
+unfolding total
+summed f a [] = omega arith
+summed f a (x ∷ l) = omega (arith, summed f (a + f x) l)
+
+pub sorted-is : (l s : List ℕ) → IsPermutation l s → IsNonDecreasing s → s ≡ rising l
+sorted-is l s p n =
+    same-rising s (rising l) 0 0 (rises-from 0 s (λ j k. zero-le) (λ i j h k. n i j 0 h k)) (rising-from l)
+    (λ f. omega (arith, sum_by-IsPermutation f l s p, summed f 0 l, summed f 0 s, rising-permutes l f))

@@ -5,7 +5,7 @@ use mathlib.Core.Path.{◌≡◌, refl}
 use mathlib.Core.List.{List, [], ◌∷◌, ◌++◌, map}
 use mathlib.Core.Option.{some}
 use lib.ListN.{replicate}
-use Rattle.wire.specs.Answer.{refused}
+use Rattle.wire.specs.Answer.{result, refused}
 use Rattle.wire.specs.Numbers.{digits, number, number_on}
 use Rattle.wire.specs.Vectors.{vector, words}
 use Rattle.wire.specs.Sums.{any, member, distinct}
@@ -16,7 +16,7 @@ use Rattle.fingerprint_bodies.specs.Forms.{words_in, even_words, word_list, one_
 use Rattle.fingerprint_parameters.proofs.Samples.{ids_below, last_twice}
 use Rattle.fingerprint_lists.specs.Arrays.{part}
 use Rattle.fingerprint.specs.Reader.{one_extension, ask_body, extension, walk, all_extensions, after_suites, after_session, fields, read_extensions, read_body, read_fields, read}
-use Rattle.fingerprint.specs.Report.{numbers_in, names_in, gathered, block_place, first_of, report, empty_report, shown, parsed_of, number_of}
+use Rattle.fingerprint.specs.Report.{numbers_in, names_in, gathered, block_place, first_of, report, empty_report, shown, parsed_of, told_report, number_of}
 use Rattle.fingerprint.specs.Calls.{bytes_or, name_or, insert, insert_all, rising, extension_set}
 
 -- a session id, suites, one compression byte and a block of extensions; all lengths are true
@@ -102,7 +102,7 @@ abbrev pub grouped : List ℕ
 grouped = 0x00 ∷ 0x0a ∷ 0x00 ∷ 0x04 ∷ 0x00 ∷ 0x02 ∷ 0x00 ∷ 0x1d ∷ []
 
 -- the report has this hello's lists, and the name where it stands. Ruled out: the same suites for every hello; a name from its length on
-pub reported : parsed_of (read (hello_of (0x2a ∷ []) (0x13 ∷ 0x02 ∷ 0xc0 ∷ 0x2b ∷ []) (grouped ++ named))) ≡ shown 0 (record {
+pub reported : parsed_of (read (hello_of (0x2a ∷ []) (0x13 ∷ 0x02 ∷ 0xc0 ∷ 0x2b ∷ []) (grouped ++ named))) ≡ result (shown (record {
   session_id_length = 1;
   cipher_suites = 0x1302 ∷ 0xc02b ∷ [];
   extensions = 0x000a ∷ 0x0000 ∷ [];
@@ -113,7 +113,7 @@ pub reported : parsed_of (read (hello_of (0x2a ∷ []) (0x13 ∷ 0x02 ∷ 0xc0 �
   alpn = [];
   sni = some (part 67 (0x61 ∷ []));
   transport_param_ids = [];
-})
+}))
 unfolding
     hello_of hello_with vector digits number number_on read read_fields read_body whole vector_at number_at taken bind mapped fields at_most after_session even_words words_in
     after_suites at_least read_extensions all_extensions walk extension one_extension ask_body member any kind body_of word_list one_entry server_name ids_new
@@ -132,7 +132,7 @@ unfolding
 refused-late = refl
 
 -- an empty report. Ruled out: one of what was read before the refusal
-pub reported-empty : parsed_of (read refused_late) ≡ shown 21 empty_report
+pub reported-empty : told_report (read refused_late) ≡ record { number = 21; values = shown empty_report }
 unfolding parsed_of
 reported-empty = rw refused-late
 

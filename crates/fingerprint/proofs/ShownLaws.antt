@@ -1,7 +1,7 @@
 -- The report as the code hands it out, of a hello that is accepted: its arrays hold the lists, within their counts, and its names lie inside
 -- the hello. Assumes nothing.
 use Prim.Native.Nat.{ℕ, zero, suc, ◌-◌, ◌≤◌, ◌<◌}
-use mathlib.Core.Path.{◌≡◌, refl, ap, ◌∙◌}
+use mathlib.Core.Path.{◌≡◌, refl, sym, ap, ◌∙◌}
 use mathlib.Core.List.{List, [], ◌∷◌, map, map-map, map-id}
 use mathlib.Core.Option.{Option, none, some}
 use native.Mathlib.Nat.{not-suc-le-zero, le_of_suc-le-suc}
@@ -10,6 +10,7 @@ use lib.ListN.{length, take, get_or, replicate, length-append, length-map, lengt
 use lib.Seq.{take_at}
 use Rattle.wire.specs.Answer.{Answer, result, refused}
 use Rattle.wire.specs.Numbers.{Bytes}
+use Rattle.wire.proofs.AnswerLaws.{apart, same-result}
 use Rattle.fingerprint_bodies.specs.Conditions.{All}
 use Rattle.fingerprint_lists.specs.Arrays.{ext_type, group, span, padded, Part, span_of}
 use Rattle.fingerprint.specs.ClientHello.{ClientHello, encode, WellFormed}
@@ -19,7 +20,6 @@ use Rattle.fingerprint.specs.Code.{type_number}
 use Rattle.fingerprint.specs.InRange.{group_number, type_numbers, group_numbers, Filled, SniInside, SpansInside, Sane, SniLies, InRange}
 use Rattle.fingerprint.specs.declared.Fingerprint.{Fingerprint}
 use Rattle.fingerprint.proofs.WellFormed.{encoded-read}
-use Rattle.fingerprint.proofs.Accepted.{Numbered, read-numbered}
 use Rattle.fingerprint.proofs.Ranges.{names-formed}
 use Rattle.fingerprint.proofs.CountLaws.{within-counts}
 
@@ -70,9 +70,9 @@ unfolding sni_of
 sni-inside h none s = tt
 sni-inside h (some p) s = s.inside
 
-pub shown-sane : (h : List ℕ) (n : ℕ) (r : Report) → InRange h r → Sane h (shown n r)
+pub shown-sane : (h : List ℕ) (r : Report) → InRange h r → Sane h (shown r)
 unfolding shown
-shown-sane h n r i =
+shown-sane h r i =
     record {
       counts = record {
         suites = filled 64 0 r.cipher_suites _ refl i.counts.suites;
@@ -87,19 +87,6 @@ shown-sane h n r i =
       protocols-inside = protocols-inside h r.alpn i.protocols-lie;
       sni-inside = sni-inside h r.sni i.sni-lies;
     }
-
--- ---- accepted or refused, by the number
-
-module _ (p : Fingerprint) where
-  refused-by : (a : Answer ClientHello) → p ≡ parsed_of a → (p.number ≡ 0 → ⊥) → a ≡ refused p.number
-  unfolding parsed_of shown
-  refused-by (result v) e n = absurd (n (ap (λ (q : Fingerprint). q.number) e))
-  refused-by (refused k) e n = rw (ap (λ (q : Fingerprint). q.number) e)
-
-  accepted-by : (a : Answer ClientHello) → Numbered a → p ≡ parsed_of a → p.number ≡ 0 → (v : ClientHello) × (a ≡ result v)
-  unfolding parsed_of shown
-  accepted-by (result v) f e n = (v, refl)
-  accepted-by (refused k) f e n = absurd (omega (arith, f.0, ap (λ (q : Fingerprint). q.number) e, n))
 
 -- ---- an accepted hello is in range
 
@@ -116,27 +103,38 @@ module _ (h : List ℕ) (b : Bytes h) (v : ClientHello) (e : read h ≡ result v
   pub in-range : InRange h (report v)
   in-range = let r = encoded-read h b v e in range-formed h v r.1 r.0
 
--- what a number of 0 says of the bytes
+-- what a report says of the bytes
 pub record Parsed (h : List ℕ) (p : Fingerprint) : Type 0 where
   pub value : ClientHello
   pub accepted : read h ≡ result value
-  pub shows : p ≡ shown 0 (report value)
+  pub shows : p ≡ shown (report value)
   pub in-range : InRange h (report value)
 
 pub parsed-sane : (h : List ℕ) (x : Fingerprint) → Parsed h x → Sane h x
-parsed-sane h x p = rw p.shows (shown-sane h 0 (report p.value) p.in-range)
+parsed-sane h x p = rw p.shows (shown-sane h (report p.value) p.in-range)
 
-module _ (h : List ℕ) (b : Bytes h) (p : Fingerprint) (e : p ≡ parsed_of (read h)) where
-  pub reported : p.number ≡ 0 → Parsed h p
-  unfolding parsed_of
-  reported n =
-      let a = accepted-by p (read h) (read-numbered h) e n in
+-- ---- accepted or refused, by what is handed out
+
+accepted-by : (p : Fingerprint) (a : Answer ClientHello) → result p ≡ parsed_of a → (v : ClientHello) × (a ≡ result v) × (p ≡ shown (report v))
+unfolding parsed_of
+accepted-by p (result v) e = (v, refl, same-result p (shown (report v)) e)
+accepted-by p (refused k) e = absurd (apart (sym e))
+
+refused-by : (n : ℕ) (a : Answer ClientHello) → refused n ≡ parsed_of a → a ≡ refused n
+unfolding parsed_of
+refused-by n (result v) e = absurd (apart e)
+refused-by n (refused k) e = let z : k ≡ n = cc in rw z
+
+module _ (h : List ℕ) where
+  pub reported : Bytes h → (p : Fingerprint) → result p ≡ parsed_of (read h) → Parsed h p
+  reported b p e =
+      let a = accepted-by p (read h) e in
       record {
         value = a.0;
         accepted = a.1;
-        shows = rw a.1 at e;
+        shows = a.2;
         in-range = in-range h b a.0 a.1;
       }
 
-  pub refusal_is : (p.number ≡ 0 → ⊥) → read h ≡ refused p.number
-  refusal_is n = refused-by p (read h) e n
+  pub refusal_is : (n : ℕ) → refused n ≡ parsed_of (read h) → read h ≡ refused n
+  refusal_is n e = refused-by n (read h) e

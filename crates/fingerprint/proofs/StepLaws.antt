@@ -11,11 +11,13 @@ use lib.ListN.{length, take, drop, length-drop, length-map}
 use lib.Seq.{drop-drop}
 use lib.Dec.{ltb}
 use Rattle.wire.specs.Answer.{Answer, result, refused, ask}
+use Rattle.wire.specs.Refusals.{question}
+use Rattle.wire.specs.declared.refusals.Refusal.{Refusal}
 use Rattle.wire.specs.Numbers.{number}
 use Rattle.wire.specs.Sums.{member}
 use Rattle.wire.proofs.ListLaws.{lt-or-le}
 use Rattle.fingerprint_bodies.specs.Entries.{entry, bind}
-use Rattle.fingerprint_bodies.specs.Body.{Body, Kind, kind}
+use Rattle.fingerprint_bodies.specs.Body.{Body, kind}
 use Rattle.fingerprint_bodies.specs.Forms.{body_of, ids_new, within_counts}
 use Rattle.fingerprint_bodies.specs.Code.{asked_of, asked}
 use Rattle.fingerprint_bodies.proofs.PieceLaws.{number-there, number_cut, vector-short, vector-there, vector-cut}
@@ -107,19 +109,9 @@ module _ (t : ℕ) where
       go true false e = absurd (let z : ◌≡◌ {A = ℕ} 23 0 = e in omega (arith, z))
       go false b e = absurd (let z : ◌≡◌ {A = ℕ} 22 0 = e in omega (arith, z))
 
--- a refusal's number is one of document 01
-pub asked-small : (k : Kind) (bs : List ℕ) → asked k bs ≤ 27
-unfolding asked
-asked-small k bs = go (body_of k bs)
-  where
-    numbers : (a b : Bool) → cond a (cond b 0 23) 22 ≤ 27
-    numbers true true = omega arith
-    numbers true false = omega arith
-    numbers false b = omega arith
-
-    go : (x : Option Body) → asked_of x ≤ 27
-    go none = omega arith
-    go (some body) = numbers (ids_new body) (within_counts body)
+-- a refusal has a number
+pub question-some : (e : Refusal) → question e ≡ 0 → ⊥
+question-some e z = grind (arith, z)
 
 -- ---- the whole of an extension, after those done
 

@@ -118,7 +118,7 @@ module _ {h : List ℕ} {block at count : ℕ} {types : List ℕ} {marks : List 
       → all_extensions (drop block h) ≡ refused n
   walking-stop n l s = w.is ∙ onward-stop h block w.found at l forward n (s w.found (sym types-taken))
 
-  pub walking-end : length h ≤ at → Surveyed h block (record { number = 0; count = count; bodies = bodies; id_count = id-count }) types ids
+  pub walking-end : length h ≤ at → Surveyed h block (record { count = count; bodies = bodies; id_count = id-count }) types ids
   walking-end l = record {
     found = w.found;
     is = w.is ∙ onward-end h block w.found at l;

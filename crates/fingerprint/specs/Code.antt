@@ -1,7 +1,10 @@
 -- What the answers of the code's inner functions stand for. No call of document 01 cites this file.
-use Rattle.std.specs.Prelude.{ℕ, ◌+◌, ◌-◌, ◌*◌, ◌≤◌, ◌<◌, ◌≡◌, Bool, false, cond, List, [], ◌∷◌, map, length, take, drop, get_or, eqb, ltb}
+use Rattle.std.specs.Prelude.{ℕ, ◌+◌, ◌-◌, ◌*◌, ◌≤◌, ◌<◌, ◌≡◌, Bool, false, cond, List, [], ◌∷◌, map, length, take, drop, get_or, eqb, ltb, Some, None, Result, Ok, Err, IfOk}
+use Rattle.std.specs.Prelude as std
 use Rattle.std.proofs.Math.Option.{Option, none, some}
-use Rattle.wire.specs.Answer.{Answer, result, refused, and_then, IsNumber}
+use Rattle.wire.specs.Answer.{Answer, result, refused, and_then}
+use Rattle.wire.specs.Refusals.{question, told_number}
+use Rattle.wire.specs.declared.refusals.Refusal.{Refusal}
 use Rattle.wire.specs.Front.{front}
 use Rattle.wire.specs.Sums.{member}
 use Rattle.profiles.specs.declared.ExtType.{ExtType}
@@ -10,24 +13,16 @@ use Rattle.fingerprint_bodies.specs.Body.{Body, Kind, kind, name, groups, algori
 use Rattle.fingerprint_bodies.specs.Forms.{words_in, word_list, server_name, protocol_names, key_shares, group_of, body_of}
 use Rattle.fingerprint_bodies.specs.Code.{asked}
 use Rattle.fingerprint_parameters.specs.Code.{ids_in, Marked}
-use Rattle.fingerprint_parameters.specs.declared.Asked.{Asked}
 use Rattle.fingerprint_lists.specs.Arrays.{span, padded, Part, part, placed}
 use Rattle.fingerprint_lists.specs.declared.Span.{Span}
 use Rattle.fingerprint.specs.ClientHello.{Extension, ClientHello, type_of, encode_extensions}
 use Rattle.fingerprint.specs.Reader.{Fields, in_form, with_extensions, one_extension, extension, walk, all_extensions, after_suites, after_session, fields, read_fields, read}
 use Rattle.fingerprint.specs.Report.{numbers_in, names_in, gathered, block_place, report, shown}
 use Rattle.fingerprint.specs.declared.head.Head.{Head}
-use Rattle.fingerprint.specs.declared.head.Head.TheVariants as head
-use Rattle.fingerprint.specs.declared.head.Place.{Place}
-use Rattle.fingerprint.specs.declared.head.Place.TheVariants as place
 use Rattle.fingerprint.specs.declared.walk.Survey.{Survey}
 use Rattle.fingerprint.specs.declared.walk.Header.{Header}
-use Rattle.fingerprint.specs.declared.walk.Header.TheVariants as header
 use Rattle.fingerprint.specs.declared.walk.Step.{Step}
-use Rattle.fingerprint.specs.declared.walk.Step.TheVariants as step
 use Rattle.fingerprint.specs.declared.Fingerprint.{Fingerprint}
-use Rattle.fingerprint.specs.declared.Sni.{Sni}
-use Rattle.fingerprint.specs.declared.Sni.TheVariants.{At, Absent}
 
 -- the bytes of a part of the hello
 abbrev pub part_of : List ℕ → Span → List ℕ
@@ -36,38 +31,43 @@ part_of h s = take s.length (drop s.start h)
 -- ---- The head
 
 -- the fields that were read, where the suites stand, and where the first extension does
-pub record FieldsFound (h : List ℕ) (session : ℕ) (suites : Span) (block : ℕ) : Type 0 where
+pub record FieldsFound (h : List ℕ) (head : Head) : Type 0 where
   pub found : Fields
   pub is : read_fields h ≡ result found
-  pub block-is : found.block ≡ drop block h
-  pub session-is : length found.session_id ≡ session
-  pub suites-are : found.cipher_suites ≡ words_in (part_of h suites)
-  pub suites-even : suites.length ≡ 2 * length found.cipher_suites
-  pub place : block ≡ 44 + session + suites.length + length found.compression
-  pub suites-inside : suites.start + suites.length ≤ length h
-  pub inside : block ≤ length h
+  pub block-is : found.block ≡ drop head.block h
+  pub session-is : length found.session_id ≡ head.session
+  pub suites-are : found.cipher_suites ≡ words_in (part_of h head.suites)
+  pub suites-even : head.suites.length ≡ 2 * length found.cipher_suites
+  pub place : head.block ≡ 44 + head.session + head.suites.length + length found.compression
+  pub suites-inside : head.suites.start + head.suites.length ≤ length h
+  pub inside : head.block ≤ length h
   pub short : length h ≤ 16384
 
-abbrev pub FieldsAs : Head → List ℕ → Type 0
-FieldsAs (head.Fields s suites b) h = FieldsFound h s suites b
-FieldsAs (head.Refused n) h = (read_fields h ≡ refused n) × IsNumber n
+abbrev pub FieldsAs : Result Head Refusal → List ℕ → Type 0
+FieldsAs (Ok f) h = FieldsFound h f
+FieldsAs (Err e) h = read_fields h ≡ refused (question e)
+
+-- the same where only a field or the block can be what is not in its form
+abbrev pub FormAs : std.Option Head → List ℕ → Type 0
+FormAs (Some f) h = FieldsFound h f
+FormAs None h = read_fields h ≡ refused 19
 
 -- the same of a hello that has at most 64 suites: what the reader goes on to
-pub record HeadFound (h : List ℕ) (session : ℕ) (suites : Span) (block : ℕ) : Type 0 where
+pub record HeadFound (h : List ℕ) (head : Head) : Type 0 where
   pub found : Fields
-  pub is : read h ≡ and_then (all_extensions (drop block h)) (λ es. result (with_extensions found es))
-  pub session-is : length found.session_id ≡ session
-  pub suites-are : found.cipher_suites ≡ words_in (part_of h suites)
-  pub suites-even : suites.length ≡ 2 * length found.cipher_suites
-  pub place : block ≡ 44 + session + suites.length + length found.compression
-  pub suites-inside : suites.start + suites.length ≤ length h
-  pub suites-few : suites.length ≤ 128
-  pub inside : block ≤ length h
+  pub is : read h ≡ and_then (all_extensions (drop head.block h)) (λ es. result (with_extensions found es))
+  pub session-is : length found.session_id ≡ head.session
+  pub suites-are : found.cipher_suites ≡ words_in (part_of h head.suites)
+  pub suites-even : head.suites.length ≡ 2 * length found.cipher_suites
+  pub place : head.block ≡ 44 + head.session + head.suites.length + length found.compression
+  pub suites-inside : head.suites.start + head.suites.length ≤ length h
+  pub suites-few : head.suites.length ≤ 128
+  pub inside : head.block ≤ length h
   pub short : length h ≤ 16384
 
-abbrev pub HeadAs : Head → List ℕ → Type 0
-HeadAs (head.Fields s suites b) h = HeadFound h s suites b
-HeadAs (head.Refused n) h = (read h ≡ refused n) × IsNumber n
+abbrev pub HeadAs : Result Head Refusal → List ℕ → Type 0
+HeadAs (Ok f) h = HeadFound h f
+HeadAs (Err e) h = read h ≡ refused (question e)
 
 -- the fields of a hello of at most 16,384 bytes are those after its first four bytes
 pub record BeforeFields (h : List ℕ) : Type 0 where
@@ -98,14 +98,14 @@ pub record BlockFound (h : List ℕ) (at block : ℕ) : Type 0 where
   pub place : block ≡ at + 3 + length compression
   pub inside : block ≤ length h
 
-abbrev pub BlockAs : Place → List ℕ → ℕ → Type 0
-BlockAs (place.At b) h at = BlockFound h at b
-BlockAs place.Cut h at = (version random id suites : List ℕ) → after_suites version random id suites (drop at h) ≡ none
+abbrev pub BlockAs : std.Option ℕ → List ℕ → ℕ → Type 0
+BlockAs (Some b) h at = BlockFound h at b
+BlockAs None h at = (version random id suites : List ℕ) → after_suites version random id suites (drop at h) ≡ none
 
 -- a list from a place on whose length reaches exactly the hello's end, and where its bytes stand
-abbrev pub EndAs : Place → List ℕ → ℕ → Type 0
-EndAs (place.At b) h at = (whole 2 (drop at h) ≡ some (drop b h)) × (b ≡ at + 2) × (b ≤ length h)
-EndAs place.Cut h at = whole 2 (drop at h) ≡ none
+abbrev pub EndAs : std.Option ℕ → List ℕ → ℕ → Type 0
+EndAs (Some b) h at = (whole 2 (drop at h) ≡ some (drop b h)) × (b ≡ at + 2) × (b ≤ length h)
+EndAs None h at = whole 2 (drop at h) ≡ none
 
 -- ---- The walk's notes
 
@@ -154,9 +154,9 @@ pub record HeaderFound (h : List ℕ) (at t start end : ℕ) : Type 0 where
   pub forward : start ≤ end
   pub inside : end ≤ length h
 
-abbrev pub HeaderAs : Header → List ℕ → ℕ → Type 0
-HeaderAs (header.At t start end) h at = HeaderFound h at t start end
-HeaderAs header.Cut h at = one_extension (drop at h) ≡ none
+abbrev pub HeaderAs : std.Option Header → List ℕ → ℕ → Type 0
+HeaderAs (Some e) h at = HeaderFound h at e.ext_type e.start e.end
+HeaderAs None h at = one_extension (drop at h) ≡ none
 
 -- the parameter ids that a body of a kind holds
 abbrev pub ids_held : Kind → List ℕ → List ℕ
@@ -176,9 +176,9 @@ pub record Gained (k : Kind) (bs : List ℕ) (n : ℕ) (old new : List ℕ) : Ty
   pub size : length new ≡ 64
 
 -- the first "no" of the questions of a body, or its ids
-pub record BodyAsked (k : Kind) (bs : List ℕ) (r : Asked) (old new : List ℕ) : Type 0 where
-  pub is : r.number ≡ asked k bs
-  pub gained : r.number ≡ 0 → Gained k bs r.ids old new
+pub record BodyAsked (k : Kind) (bs : List ℕ) (r : Result ℕ Refusal) (old new : List ℕ) : Type 0 where
+  pub is : told_number r ≡ asked k bs
+  pub gained : IfOk r (λ n. Gained k bs n old new)
 
 -- the next extension at a place of the hello, after others of these types, and the place of its body in a survey's bodies
 pub record StepFound (h : List ℕ) (at t place start end : ℕ) (known : List ℕ) : Type 0 where
@@ -193,9 +193,10 @@ pub record StepFound (h : List ℕ) (at t place start end : ℕ) (known : List �
   pub forward : start ≤ end
   pub inside : end ≤ length h
 
-abbrev pub StepAs : Step → List ℕ → ℕ → List ℕ → List ℕ → List ℕ → Type 0
-StepAs (step.Next t place start end n) h at known old new = StepFound h at t place start end known × Gained (kind t) (take (end - start) (drop start h)) n old new
-StepAs (step.Refused n) h at known old new = ((done : List Extension) → map type_of done ≡ known → extension done (drop at h) ≡ refused n) × IsNumber n
+abbrev pub StepAs : Result Step Refusal → List ℕ → ℕ → List ℕ → List ℕ → List ℕ → Type 0
+StepAs (Ok s) h at known old new =
+    StepFound h at s.ext_type s.slot s.start s.end known × Gained (kind s.ext_type) (take (s.end - s.start) (drop s.start h)) s.ids old new
+StepAs (Err e) h at known old new = (done : List Extension) → map type_of done ≡ known → extension done (drop at h) ≡ refused (question e)
 
 -- a note lies inside the hello; the body there was found good, or the extension is not there and the note is empty
 pub record Noted (h : List ℕ) (block : ℕ) (es : List Extension) (k : Kind) (s : Span) : Type 0 where
@@ -237,11 +238,15 @@ pub record Walking (h : List ℕ) (block at count : ℕ) (types : List ℕ) (mar
   pub ids-are : IdsFound block found id-count ids
   pub notes : (k : Kind) → Noted h block found k (get_or bodies (slot k) (span 0 0))
 
--- 0 where the walk came to the end, else the number of the refusal
-pub record SurveyAs (h : List ℕ) (block : ℕ) (r : Survey) (types ids : List ℕ) : Type 0 where
-  pub accepted : r.number ≡ 0 → Surveyed h block r types ids
-  pub refuses : 0 < r.number → all_extensions (drop block h) ≡ refused r.number
-  pub bound : r.number ≤ 27
+-- what the walk found where it came to the end, or the refusal
+abbrev pub SurveyAs : List ℕ → ℕ → Result Survey Refusal → List ℕ → List ℕ → Type 0
+SurveyAs h block (Ok r) types ids = Surveyed h block r types ids
+SurveyAs h block (Err e) types ids = all_extensions (drop block h) ≡ refused (question e)
+
+-- the head and what the walk found, or the reader's refusal
+abbrev pub ReadAs : List ℕ → Result (Head × Survey) Refusal → List ℕ → List ℕ → Type 0
+ReadAs h (Ok (head, r)) types ids = HeadFound h head × Surveyed h head.block r types ids
+ReadAs h (Err e) types ids = read h ≡ refused (question e)
 
 -- ---- The report from what was found
 
@@ -249,29 +254,29 @@ abbrev pub note_of : Survey → Kind → Span
 note_of r k = get_or r.bodies (slot k) (span 0 0)
 
 -- the name in a body of server_name: after the list's length, the name's type and its own length
-unfoldable pub name_in : Span → Sni
-name_in s = cond (ltb s.length 5) Absent (At (span (s.start + 5) (s.length - 5)))
+unfoldable pub name_in : Span → std.Option Span
+name_in s = cond (ltb s.length 5) None (Some (span (s.start + 5) (s.length - 5)))
 
 -- what the head and the walk found lies inside the hello, and each body was found good
-pub record Readable (h : List ℕ) (suites : Span) (r : Survey) : Type 0 where
-  pub suites-inside : suites.start + suites.length ≤ length h
-  pub suites-few : suites.length ≤ 128
+pub record Readable (h : List ℕ) (head : Head) (r : Survey) : Type 0 where
+  pub suites-inside : head.suites.start + head.suites.length ≤ length h
+  pub suites-few : head.suites.length ≤ 128
   pub short : length h ≤ 16384
   pub inside : (k : Kind) → (note_of r k).start + (note_of r k).length ≤ length h
   pub good : (k : Kind) → 0 < (note_of r k).length → asked k (part_of h (note_of r k)) ≡ 0
 
 -- what was found is that of a ClientHello
-pub record FoundOf (h : List ℕ) (session : ℕ) (suites : Span) (r : Survey) (types ids : List ℕ) (v : ClientHello) : Type 0 where
-  pub session-is : length v.session_id ≡ session
-  pub suites-are : v.cipher_suites ≡ words_in (part_of h suites)
+pub record FoundOf (h : List ℕ) (head : Head) (r : Survey) (types ids : List ℕ) (v : ClientHello) : Type 0 where
+  pub session-is : length v.session_id ≡ head.session
+  pub suites-are : v.cipher_suites ≡ words_in (part_of h head.suites)
   pub count-is : r.count ≡ length v.extensions
   pub types_are : types ≡ padded 64 0 (map type_of v.extensions)
   pub ids-are : IdsFound (block_place v) v.extensions r.id_count ids
   pub notes : (k : Kind) → Noted h (block_place v) v.extensions k (note_of r k)
 
 -- the report of that ClientHello
-pub record ReportAs (h : List ℕ) (session : ℕ) (suites : Span) (found : Survey) (types ids : List ℕ) (r : Fingerprint) : Type 0 where
-  pub is : (v : ClientHello) → FoundOf h session suites found types ids v → r ≡ shown 0 (report v)
+pub record ReportAs (h : List ℕ) (head : Head) (found : Survey) (types ids : List ℕ) (r : Fingerprint) : Type 0 where
+  pub is : (v : ClientHello) → FoundOf h head found types ids v → r ≡ shown (report v)
 
 -- the number of a type
 abbrev pub type_number : ExtType → ℕ

@@ -1,5 +1,6 @@
 -- The report as the code hands it out: each count is within its array, and the names lie inside the hello.
-use Rattle.std.specs.Prelude.{ℕ, ◌+◌, ◌≤◌, ◌<◌, ◌≡◌, List, map, length, take, get_or}
+use Rattle.std.specs.Prelude.{ℕ, ◌+◌, ◌≤◌, ◌<◌, ◌≡◌, List, map, length, take, get_or, Some, None}
+use Rattle.std.specs.Prelude as std
 use Rattle.std.proofs.Math.Option.{Option, none, some}
 use Rattle.profiles.specs.declared.ExtType.{ExtType}
 use Rattle.profiles.specs.declared.Group.{Group}
@@ -9,8 +10,6 @@ use Rattle.fingerprint_lists.specs.declared.Span.{Span}
 use Rattle.fingerprint.specs.Code.{type_number}
 use Rattle.fingerprint.specs.Report.{Report, Lies}
 use Rattle.fingerprint.specs.declared.Fingerprint.{Fingerprint}
-use Rattle.fingerprint.specs.declared.Sni.{Sni}
-use Rattle.fingerprint.specs.declared.Sni.TheVariants.{At, Absent}
 
 -- the numbers of the first `count` types, or groups
 abbrev pub type_numbers : List ExtType → ℕ → List ℕ
@@ -31,9 +30,9 @@ pub record Filled {A : Type 0} (m : ℕ) (items : List A) (count : ℕ) : Type 0
 abbrev pub Inside : List ℕ → Span → Type 0
 Inside h s = s.start + s.length ≤ length h
 
-abbrev pub SniInside : List ℕ → Sni → Type 0
-SniInside h (At s) = Inside h s
-SniInside h Absent = Unit {0}
+abbrev pub SniInside : List ℕ → std.Option Span → Type 0
+SniInside h (Some s) = Inside h s
+SniInside h None = Unit {0}
 
 abbrev pub SpansInside : List ℕ → List Span → ℕ → Type 0
 SpansInside h items count = (i : ℕ) → i < count → Inside h (get_or items i (span 0 0))

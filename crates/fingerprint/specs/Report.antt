@@ -1,14 +1,16 @@
 -- The report of a ClientHello: "the fields of `Fingerprint`", and the form in which the code hands them out.
-use Rattle.std.specs.Prelude.{ℕ, ◌+◌, ◌*◌, ◌≤◌, ◌≡◌, cond, List, [], ◌∷◌, ◌++◌, map, length, take, drop, eqb}
+use Rattle.std.specs.Prelude.{ℕ, ◌+◌, ◌*◌, ◌≤◌, ◌≡◌, cond, List, [], ◌∷◌, ◌++◌, map, length, take, drop, eqb, Some, None}
+use Rattle.std.specs.Prelude as std
 use Rattle.std.proofs.Math.Option.{Option, none, some}
-use Rattle.wire.specs.Answer.{Answer, result, refused}
+use Rattle.wire.specs.Answer.{Answer, result, refused, Told, told}
+use Rattle.wire.specs.Refusals.{question}
+use Rattle.wire.specs.declared.refusals.Refusal.{Refusal}
 use Rattle.fingerprint_bodies.specs.Body.{Body, server-name, supported-groups, signature-algorithms, application-protocols, supported-versions, key-shares, transport-parameters, unread, encode_body}
 use Rattle.fingerprint_bodies.specs.Forms.{group_of, id_of}
+use Rattle.fingerprint_lists.specs.declared.Span.{Span}
 use Rattle.fingerprint_lists.specs.Arrays.{ext_type, group, span, padded, Part, part, span_of, placed}
 use Rattle.fingerprint.specs.ClientHello.{Extension, ClientHello, type_of}
 use Rattle.fingerprint.specs.declared.Fingerprint.{Fingerprint}
-use Rattle.fingerprint.specs.declared.Sni.{Sni}
-use Rattle.fingerprint.specs.declared.Sni.TheVariants.{At, Absent}
 
 pub record Report : Type 0 where
   pub session_id_length : ℕ
@@ -100,14 +102,12 @@ pub record Lies (h : List ℕ) (p : Part) : Type 0 where
 
 -- ---- As the code hands it out: arrays with counts, zeros past each count, names as ranges
 
-unfoldable pub sni_of : Option Part → Sni
-sni_of none = Absent
-sni_of (some p) = At (span_of p)
+unfoldable pub sni_of : Option Part → std.Option Span
+sni_of none = None
+sni_of (some p) = Some (span_of p)
 
--- beside the number, which is 0 where the hello is accepted
-unfoldable pub shown : ℕ → Report → Fingerprint
-shown n r = record {
-  number = n;
+unfoldable pub shown : Report → Fingerprint
+shown r = record {
   legacy_session_id_len = r.session_id_length;
   cipher_suites = padded 64 0 r.cipher_suites;
   suite_count = length r.cipher_suites;
@@ -128,11 +128,20 @@ shown n r = record {
   id_count = length r.transport_param_ids;
 }
 
--- "A refusal carries its number, zero counts, an empty report."
-unfoldable pub parsed_of : Answer ClientHello → Fingerprint
-parsed_of (result v) = shown 0 (report v)
-parsed_of (refused n) = shown n empty_report
+-- the report of a hello that is accepted, as the code hands it out; of one that is refused, the refusal alone
+unfoldable pub parsed_of : Answer ClientHello → Answer Fingerprint
+parsed_of (result v) = result (shown (report v))
+parsed_of (refused n) = refused n
+
+-- the same in numbers: "A refusal carries its number, zero counts, an empty report."
+abbrev pub told_report : Answer ClientHello → Told Fingerprint
+told_report a = told (shown empty_report) (parsed_of a)
 
 unfoldable pub number_of : Answer ClientHello → ℕ
 number_of (result v) = 0
 number_of (refused n) = n
+
+-- the number of the refusal that the code answers, 0 where it answers none
+abbrev pub refusal_number : std.Option Refusal → ℕ
+refusal_number None = 0
+refusal_number (Some e) = question e

@@ -1,140 +1,131 @@
 // What stands before the extensions: questions 16 to 19, and the suites' 23.
 ghost use Rattle.std.specs.Prelude.{◌≤◌, length};
-ghost use Rattle.fingerprint.specs.Code.{FieldsAs, HeadAs, BeforeFields, BeforeSuites, BlockAs, EndAs};
+ghost use Rattle.fingerprint.specs.Code.{FieldsAs, FormAs, HeadAs, BeforeFields, BeforeSuites, BlockAs, EndAs};
 
 use fingerprint_lists::Span;
-use wire::{be16, wide};
+use wire::{Refusal, be16};
 
-// The fields before the extensions: the session id's length, the suites' part of the hello, and the place of the first extension; or
-// the number of the refusal.
+// The fields before the extensions: the session id's length, the suites' part of the hello, and the place of the first extension.
 #[derive(Clone, Copy)]
-pub enum Head {
-    Fields(usize, Span, usize),
-    Refused(u64),
-}
-
-// A place in the hello, or the hello is not in its form.
-#[derive(Clone, Copy)]
-pub enum Place {
-    At(usize),
-    Cut,
+pub struct Head {
+    pub session: usize,
+    pub suites: Span,
+    pub block: usize,
 }
 
 // All of it: the fields, and then "Suites at most 64? 23".
-pub fn read_head(hello: &[u8]) -> Head
+pub fn read_head(hello: &[u8]) -> Result<Head, Refusal>
     ensures { HeadAs result hello.now }
 {
-    match read_fields(hello) {
-        Head::Fields(session, suites, block) => {
-            if 128 < suites.length {
-                return Head::Refused(23);
-            }
-            Head::Fields(session, suites, block)
-        }
-        Head::Refused(number) => Head::Refused(number),
+    let head = read_fields(hello)?;
+    if 128 < head.suites.length {
+        return Err(Refusal::ListTooLong);
     }
+    Ok(head)
 }
 
 // Hello at most 16,384 bytes? 16 First byte there and 01? 17 Its 3-byte length there and true? 18 Fields and block in their form? 19
-pub fn read_fields(hello: &[u8]) -> Head
+pub fn read_fields(hello: &[u8]) -> Result<Head, Refusal>
     ensures { FieldsAs result hello.now }
 {
     let n = hello.len();
     if 16384 < n {
-        return Head::Refused(16);
+        return Err(Refusal::HelloTooLong);
     }
     if n == 0 {
-        return Head::Refused(17);
+        return Err(Refusal::NoClientHello);
     }
     if hello[0] != 1 {
-        return Head::Refused(17);
+        return Err(Refusal::NoClientHello);
     }
     if n < 4 {
-        return Head::Refused(18);
+        return Err(Refusal::WrongLength);
     }
-    let length = wide(hello[1]) * 65536 + be16(&hello[2..]) as u64;
-    if length != (n - 4) as u64 {
-        return Head::Refused(18);
+    let length = usize::from(hello[1]) * 65536 + usize::from(be16(&hello[2..]));
+    if length != n - 4 {
+        return Err(Refusal::WrongLength);
     }
-    after_length(hello)
+    after_length(hello).ok_or(Refusal::FieldMalformed)
 }
 
-// Version, unread, 32 random bytes, and a session id of up to 32 bytes.
-fn after_length(hello: &[u8]) -> Head
+// Version, unread, 32 random bytes, and a session id of up to 32 bytes. From here on, none is a field that is not in its form.
+fn after_length(hello: &[u8]) -> Option<Head>
     requires { BeforeFields hello.now }
-    ensures { FieldsAs result hello.now }
+    ensures { FormAs result hello.now }
 {
     let n = hello.len();
     if n < 39 {
-        return Head::Refused(19);
+        return None;
     }
-    let session = wide(hello[38]) as usize;
+    let session = usize::from(hello[38]);
     if 32 < session {
-        return Head::Refused(19);
+        return None;
     }
     if n - 39 < session {
-        return Head::Refused(19);
+        return None;
     }
     after_session(hello, session)
 }
 
 // The suites. Whether there are more than 64 is asked after all fields.
-fn after_session(hello: &[u8], session: usize) -> Head
+fn after_session(hello: &[u8], session: usize) -> Option<Head>
     requires { BeforeSuites hello.now session }
-    ensures { FieldsAs result hello.now }
+    ensures { FormAs result hello.now }
 {
     let n = hello.len();
     let at = 39 + session;
     if n - at < 2 {
-        return Head::Refused(19);
+        return None;
     }
-    let length = be16(&hello[at..]) as usize;
+    let length = usize::from(be16(&hello[at..]));
     let start = at + 2;
     if length < 2 {
-        return Head::Refused(19);
+        return None;
     }
     if length % 2 != 0 {
-        return Head::Refused(19);
+        return None;
     }
     if n - start < length {
-        return Head::Refused(19);
+        return None;
     }
-    let Place::At(block) = after_suites(hello, start + length) else {
-        return Head::Refused(19);
-    };
-    Head::Fields(session, Span { start, length }, block)
+    let block = after_suites(hello, start + length)?;
+    Some(Head {
+        session,
+        suites: Span { start, length },
+        block,
+    })
 }
 
 // Compression of one byte or more, and the block's length: the place of the first extension.
-fn after_suites(hello: &[u8], at: usize) -> Place
+fn after_suites(hello: &[u8], at: usize) -> Option<usize>
     requires { at ≤ length hello.now }
     ensures { BlockAs result hello.now at }
 {
     let n = hello.len();
     if n - at < 2 {
-        return Place::Cut;
+        return None;
     }
-    let length = wide(hello[at]) as usize;
+    let length = usize::from(hello[at]);
     if length == 0 {
-        return Place::Cut;
+        return None;
     }
     if n - at - 1 < length {
-        return Place::Cut;
+        return None;
     }
     block_at(hello, at + 1 + length)
 }
 
 // The block's length reaches exactly the hello's end.
-fn block_at(hello: &[u8], at: usize) -> Place
+fn block_at(hello: &[u8], at: usize) -> Option<usize>
     requires { at ≤ length hello.now }
     ensures { EndAs result hello.now at }
 {
     let n = hello.len();
     if n - at < 2 {
-        return Place::Cut;
+        return None;
     }
-    if be16(&hello[at..]) as usize != n - at - 2 {
-        return Place::Cut;
+    if usize::from(be16(&hello[at..])) != n - at - 2 {
+        return None;
     }
-    Place::At(at + 2)
+    Some(at + 2)
 }

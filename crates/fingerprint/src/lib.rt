@@ -1,4 +1,4 @@
-// The reader (fingerprint.rs): a ClientHello's report, or the number of its refusal, for any bytes. Document 01, "Reading" and questions
+// The reader (fingerprint.rs): a ClientHello's report, or its refusal, for any bytes. Document 01, "Reading" and questions
 // 16 to 23. The head is read, the walk over the extensions checks and notes where things are, and one function builds the report.
 #![tactic(auto)]
 
@@ -10,18 +10,10 @@ pub mod walk;
 use fingerprint_lists::Span;
 use profiles::{ExtType, Group};
 
-// A name is a part of the hello, or not there.
-#[derive(Clone, Copy)]
-pub enum Sni {
-    At(Span),
-    Absent,
-}
-
-// The report: the fields of a ClientHello that a browser is known by. A list is an array with its count, and zeros past it; a name is a
-// part of the hello. The number is 0, or that of the refusal, and then all else is empty.
+// The report: the fields of a ClientHello that a browser is known by. A list is an array with its count, and zeros past it, for there is
+// no heap; a name is a part of the hello.
 #[derive(Clone, Copy)]
 pub struct Fingerprint {
-    pub number: u64,
     pub legacy_session_id_len: usize,
     pub cipher_suites: [u16; 64],
     pub suite_count: usize,
@@ -37,7 +29,7 @@ pub struct Fingerprint {
     pub version_count: usize,
     pub alpn: [Span; 16],
     pub alpn_count: usize,
-    pub sni: Sni,
+    pub sni: Option<Span>,
     pub transport_param_ids: [u64; 64],
     pub id_count: usize,
 }

@@ -1,71 +1,62 @@
-// The calls of the reader: report, number alone, name, types in rising order.
-ghost use Rattle.std.specs.Prelude.{◌≡◌, [], map, ◌≤◌, length, take};
+// The calls of the reader: report, refusal alone, name, types in rising order.
+ghost use Rattle.std.specs.Prelude.{◌≡◌, [], replicate};
 ghost use Rattle.fingerprint_lists.specs.Arrays.{types_of};
 ghost use Rattle.fingerprint.specs.Reader.{read};
-ghost use Rattle.fingerprint.specs.Report.{number_of, parsed_of};
-ghost use Rattle.fingerprint.specs.Calls.{name_or, rising, extension_set};
-ghost use Rattle.fingerprint.specs.Code.{type_number};
+ghost use Rattle.wire.specs.Refusals.{answer_of, told_of};
+ghost use Rattle.fingerprint.specs.Report.{shown, empty_report, parsed_of, told_report, number_of, refusal_number};
+ghost use Rattle.fingerprint.specs.Calls.{name_or, extension_set};
+ghost use Rattle.fingerprint.specs.Code.{ReadAs};
 
+use crate::Fingerprint;
 use crate::head::{Head, read_head};
-use crate::report::{ext_types, name_in, part, refused, report};
-use crate::walk::survey_block;
-use crate::{Fingerprint, Sni};
+use crate::report::{ext_types, name_in, part, report};
+use crate::walk::{Survey, survey_block};
 use fingerprint_lists::Types;
 use profiles::ExtType;
+use wire::Refusal;
 
-// The report of any bytes: that of the hello, or the number of the refusal and nothing else. It is handed out before the refusals, for
-// then the compiler makes a copy less.
-pub fn parse_clienthello(hello: &[u8]) -> Fingerprint
-    ensures { result ≡ parsed_of (read hello.now) }
+// The head, and what the walk over the extensions found: their types and the parameter ids are left in arrays of zeros.
+fn survey(
+    hello: &[u8],
+    types: &mut [u16; 64],
+    ids: &mut [u64; 64],
+) -> Result<(Head, Survey), Refusal>
+    requires { (types.old ≡ replicate 64 0) × (ids.old ≡ replicate 64 0) }
+    ensures { ReadAs hello.now result types.new ids.new }
 {
-    match read_head(hello) {
-        Head::Fields(session, suites, block) => {
-            let mut types = [0u16; 64];
-            let mut ids = [0u64; 64];
-            let found = survey_block(hello, block, &mut types, &mut ids);
-            let number = found.number;
-            if number == 0 {
-                return report(hello, session, suites, found, types, ids);
-            }
-            refused(number)
-        }
-        Head::Refused(number) => refused(number),
-    }
+    let head = read_head(hello)?;
+    let found = survey_block(hello, head.block, types, ids)?;
+    Ok((head, found))
 }
 
-// The number of the refusal, 0 where the hello is accepted: no report is built.
-pub fn refusal(hello: &[u8]) -> u64
-    ensures { result ≡ number_of (read hello.now) }
+// The report of any bytes: that of the hello, or its refusal.
+pub fn parse_clienthello(hello: &[u8]) -> Result<Fingerprint, Refusal>
+    ensures is { answer_of result ≡ parsed_of (read hello.now) }
+    ensures tells { told_of (shown empty_report) result ≡ told_report (read hello.now) }
 {
-    match read_head(hello) {
-        Head::Fields(_, _, block) => {
-            let mut types = [0u16; 64];
-            let mut ids = [0u64; 64];
-            let found = survey_block(hello, block, &mut types, &mut ids);
-            found.number
-        }
-        Head::Refused(number) => number,
-    }
+    let mut types = [0; 64];
+    let mut ids = [0; 64];
+    let (head, found) = survey(hello, &mut types, &mut ids)?;
+    Ok(report(hello, head, found, types, ids))
+}
+
+// The refusal alone, none where the hello is accepted: no report is built.
+pub fn refusal(hello: &[u8]) -> Option<Refusal>
+    ensures { refusal_number result ≡ number_of (read hello.now) }
+{
+    survey(hello, &mut [0; 64], &mut [0; 64]).err()
 }
 
 // The name's part of the hello, or the default where the hello is refused or nameless.
 pub fn name_or<'a>(hello: &'a [u8], default: &'a [u8]) -> &'a [u8]
     ensures { result.now ≡ name_or default.now (read hello.now) }
 {
-    let Head::Fields(_, _, block) = read_head(hello) else {
+    let Ok((_, found)) = survey(hello, &mut [0; 64], &mut [0; 64]) else {
         return default;
     };
-    let mut types = [0u16; 64];
-    let mut ids = [0u64; 64];
-    let found = survey_block(hello, block, &mut types, &mut ids);
-    if found.number != 0 {
-        return default;
-    }
-    let bodies = found.bodies;
-    let body = bodies[0];
-    match name_in(body) {
-        Sni::At(s) => part(hello, s),
-        Sni::Absent => default,
+    match name_in(found.bodies[0]) {
+        Some(name) => part(hello, name),
+        None => default,
     }
 }
 
@@ -73,16 +64,16 @@ pub fn name_or<'a>(hello: &'a [u8], default: &'a [u8]) -> &'a [u8]
 pub fn extension_set(hello: &[u8]) -> Types
     ensures { result ≡ types_of (extension_set (read hello.now)) }
 {
-    let Head::Fields(_, _, block) = read_head(hello) else {
+    let mut types = [0; 64];
+    let Ok((_, found)) = survey(hello, &mut types, &mut [0; 64]) else {
         return no_types();
     };
-    let mut types = [0u16; 64];
-    let mut ids = [0u64; 64];
-    let found = survey_block(hello, block, &mut types, &mut ids);
-    if found.number != 0 {
-        return no_types();
+    let count = found.count;
+    types[..count].sort_unstable();
+    Types {
+        items: ext_types(&types),
+        count,
     }
-    sorted(ext_types(&types), found.count)
 }
 
 fn no_types() -> Types
@@ -92,29 +83,4 @@ fn no_types() -> Types
         items: [ExtType(0); 64],
         count: 0,
     }
-}
-
-// The first `count` of the types, in rising order. Each in turn is put among those before it: the smaller stays, the larger goes on.
-fn sorted(types: [ExtType; 64], count: usize) -> Types
-    requires { (count ≤ 64) × (length types ≡ 64) }
-    ensures { result ≡ types_of (rising (map type_number (take count types))) }
-{
-    let mut items = [ExtType(0); 64];
-    let mut i: usize = 0;
-    while i < count {
-        let t = types[i];
-        let mut carried = t.0;
-        let mut j: usize = 0;
-        while j < i {
-            let here = items[j];
-            if carried < here.0 {
-                items[j] = ExtType(carried);
-                carried = here.0;
-            }
-            j = j + 1;
-        }
-        items[i] = ExtType(carried);
-        i = i + 1;
-    }
-    Types { items, count }
 }

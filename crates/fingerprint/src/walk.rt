@@ -8,35 +8,37 @@ ghost use Rattle.fingerprint.specs.Code as code;
 ghost use Rattle.fingerprint.specs.Code.{kind_at, HeaderAs, BodyAsked, StepAs, SurveyAs};
 
 use fingerprint_lists::Span;
-use fingerprint_parameters::{Asked, without_ids};
-use wire::be16;
+use wire::{Refusal, be16};
 
-// What the walk found: the number of the refusal, or 0, how many extensions there are, for each kind of body the part of the hello that
-// holds it, empty where there is none, and how many parameter ids there are.
+// What the walk found: how many extensions there are, for each kind of body the part of the hello that holds it, empty where there is
+// none, and how many parameter ids there are.
 #[derive(Clone, Copy)]
 pub struct Survey {
-    pub number: u64,
     pub count: usize,
     pub bodies: [Span; 8],
     pub id_count: usize,
 }
 
-// A header: the extension's type and its body's ends; or header or body are not inside the block.
-#[derive(Clone, Copy)]
-pub enum Header {
-    At(u16, usize, usize),
-    Cut,
+// A header: the extension's type and its body's ends.
+#[derive(Clone, Copy, PartialEq, Eq, Debug)]
+pub struct Header {
+    pub ext_type: u16,
+    pub start: usize,
+    pub end: usize,
 }
 
-// One extension: its type, the place of its body in a survey, its body's ends, and how many parameter ids it has; or the number of the
-// refusal.
-#[derive(Clone, Copy)]
-pub enum Step {
-    Next(u16, usize, usize, usize, usize),
-    Refused(u64),
+// One extension: its type, the place of its body in a survey, its body's ends, and how many parameter ids it has.
+#[derive(Clone, Copy, PartialEq, Eq, Debug)]
+pub struct Step {
+    pub ext_type: u16,
+    pub slot: usize,
+    pub start: usize,
+    pub end: usize,
+    pub ids: usize,
 }
 
-// The place in a survey's bodies for each kind of body; the last is for those that are not read.
+// The place in a survey's bodies for each kind of body; the last is for those that are not read. A number and not an enum: it is the
+// index there.
 pub fn slot(t: u16) -> usize
     ensures { result ≡ code.slot (kind t) }
 {
@@ -52,115 +54,103 @@ pub fn slot(t: u16) -> usize
     }
 }
 
-// The questions of a body, by its kind's place: each goes to its own reader. Question 22 reads all parameter ids, and they are left in
-// the array.
-pub fn ask_body(place: usize, body: &[u8], ids: &mut [u64; 64]) -> Asked
-    requires { length ids.old ≡ 64 }
+// The questions of a body, by its kind's place: each goes to its own reader. Question 22 reads all parameter ids: they are left in the
+// array, and this is their count.
+pub fn ask_body(place: usize, body: &[u8], ids: &mut [u64; 64]) -> Result<usize, Refusal>
     ensures { BodyAsked (kind_at place) body.now result ids.old ids.new }
 {
     match place {
-        0 => without_ids(fingerprint_bodies::ask_name(body)),
-        1 => without_ids(fingerprint_bodies::ask_words(body, 2)),
-        2 => without_ids(fingerprint_bodies::ask_words(body, 2)),
-        3 => without_ids(fingerprint_bodies::ask_protocols(body)),
-        4 => without_ids(fingerprint_bodies::ask_words(body, 1)),
-        5 => without_ids(fingerprint_bodies::ask_shares(body)),
-        6 => fingerprint_parameters::ask_parameters(body, ids),
-        _ => without_ids(0),
+        0 => fingerprint_bodies::ask_name(body)?,
+        1 => fingerprint_bodies::ask_words(body, 2)?,
+        2 => fingerprint_bodies::ask_words(body, 2)?,
+        3 => fingerprint_bodies::ask_protocols(body)?,
+        4 => fingerprint_bodies::ask_words(body, 1)?,
+        5 => fingerprint_bodies::ask_shares(body)?,
+        6 => return fingerprint_parameters::ask_parameters(body, ids),
+        _ => (),
     }
-}
-
-// The type is among the first `count`.
-pub fn among(known: &[u16; 64], count: usize, t: u16) -> bool
-    requires { (count ≤ 64) × (length known.now ≡ 64) }
-    ensures { result ≡ member t (take count known.now) }
-{
-    let mut i: usize = 0;
-    while i < count {
-        if t == known[i] {
-            return true;
-        }
-        i = i + 1;
-    }
-    false
+    Ok(0)
 }
 
 // The mark of a type: its rest by 64. A type is looked up among those before it only where one of them has the same mark.
 fn mark(t: u16) -> usize
     ensures { result ≡ t % 64 }
 {
-    (t % 64) as usize
+    usize::from(t % 64)
 }
 
-fn is_known(known: &[u16; 64], count: usize, marks: &[bool; 64], t: u16) -> bool
-    requires { (count ≤ 64) × (length known.now ≡ 64) × (length marks.now ≡ 64) × Marked marks.now (take count known.now) }
-    ensures { result ≡ member t (take count known.now) }
-{
-    if marks[mark(t)] {
-        return among(known, count, t);
+// The types before an extension, the first of an array, and the marks of these. Whoever has no marks sets all.
+#[derive(Clone, Copy)]
+pub struct Known<'a> {
+    pub types: &'a [u16; 64],
+    pub count: usize,
+    pub marks: &'a [bool; 64],
+    ghost few: { count ≤ 64 },
+    ghost long: { length types.now ≡ 64 },
+    ghost marked: { Marked marks.now (take count types.now) },
+}
+
+impl Known<'_> {
+    // The type is among them.
+    pub fn has(&self, t: u16) -> bool
+        ensures { result ≡ member t (take self.now.count self.now.types.now) }
+    {
+        let marks = self.marks;
+        let types = self.types;
+        marks[mark(t)] && types[..self.count].contains(&t)
     }
-    false
 }
 
-// The header of the extension at a place.
-pub fn read_header(hello: &[u8], at: usize) -> Header
+// The header of the extension at a place; none where header or body are not inside the block.
+pub fn read_header(hello: &[u8], at: usize) -> Option<Header>
     requires { at ≤ length hello.now }
     ensures { HeaderAs result hello.now at }
 {
     let n = hello.len();
     if n - at < 4 {
-        return Header::Cut;
+        return None;
     }
-    let length = be16(&hello[at + 2..]) as usize;
+    let length = usize::from(be16(&hello[at + 2..]));
     let start = at + 4;
     if n - start < length {
-        return Header::Cut;
+        return None;
     }
-    Header::At(be16(&hello[at..]), start, start + length)
+    Some(Header {
+        ext_type: be16(&hello[at..]),
+        start,
+        end: start + length,
+    })
 }
 
-// The questions of the extension at a place, after `count` others.
+// The questions of the extension at a place, after others.
 pub fn extension(
     hello: &[u8],
     at: usize,
-    known: &[u16; 64],
-    count: usize,
-    marks: &[bool; 64],
+    known: Known<'_>,
     ids: &mut [u64; 64],
-) -> Step
-    requires { (at ≤ length hello.now) × (length hello.now ≤ 16384) × (count ≤ 64) × (length known.now ≡ 64) × (length marks.now ≡ 64) × Marked marks.now (take count known.now) × (length ids.old ≡ 64) }
-    ensures { StepAs result hello.now at (take count known.now) ids.old ids.new }
+) -> Result<Step, Refusal>
+    requires { (at ≤ length hello.now) × (length hello.now ≤ 16384) }
+    ensures { StepAs result hello.now at (take known.entry.count known.entry.types.now) ids.old ids.new }
 {
-    let Header::At(t, start, end) = read_header(hello, at) else {
-        return Step::Refused(20);
-    };
-    if is_known(known, count, marks, t) {
-        return Step::Refused(21);
+    let header = read_header(hello, at).ok_or(Refusal::ExtensionCut)?;
+    let ext_type = header.ext_type;
+    if known.has(ext_type) {
+        return Err(Refusal::ExtensionMalformed);
     }
-    let place = slot(t);
-    let asked = ask_body(place, &hello[start..end], ids);
-    let number = asked.number;
-    if number != 0 {
-        return Step::Refused(number);
+    let place = slot(ext_type);
+    let start = header.start;
+    let end = header.end;
+    let new_ids = ask_body(place, &hello[start..end], ids)?;
+    if 64 <= known.count {
+        return Err(Refusal::ListTooLong);
     }
-    if 64 <= count {
-        return Step::Refused(23);
-    }
-    Step::Next(t, place, start, end, asked.ids)
-}
-
-fn refused(number: u64) -> Survey
-    ensures { result.number ≡ number }
-{
-    Survey {
-        number,
-        count: 0,
-        bodies: [Span {
-            start: 0,
-            length: 0,
-        }; 8],
-        id_count: 0,
-    }
+    Ok(Step {
+        ext_type,
+        slot: place,
+        start,
+        end,
+        ids: new_ids,
+    })
 }
 
 // The whole block, from a place on; types and parameter ids are left in arrays of zeros.
@@ -169,7 +159,7 @@ pub fn survey_block(
     block: usize,
     types: &mut [u16; 64],
     ids: &mut [u64; 64],
-) -> Survey
+) -> Result<Survey, Refusal>
     requires { (block ≤ length hello.now) × (length hello.now ≤ 16384) × (types.old ≡ replicate 64 0) × (ids.old ≡ replicate 64 0) }
     ensures { SurveyAs hello.now block result types.new ids.new }
 {
@@ -178,31 +168,30 @@ pub fn survey_block(
         start: 0,
         length: 0,
     }; 8];
-    let mut count: usize = 0;
-    let mut id_count: usize = 0;
+    let mut count = 0;
+    let mut id_count = 0;
     let mut at = block;
+    // A place and not an item: each step takes as many bytes as the extension has.
     while at < hello.len() {
-        match extension(hello, at, types, count, &marks, ids) {
-            Step::Next(t, place, start, end, new_ids) => {
-                types[count] = t;
-                marks[mark(t)] = true;
-                bodies[place] = Span {
-                    start,
-                    length: end - start,
-                };
-                count = count + 1;
-                id_count = id_count + new_ids;
-                at = end;
-            }
-            Step::Refused(number) => {
-                return refused(number);
-            }
-        }
+        let known = Known {
+            types,
+            count,
+            marks: &marks,
+        };
+        let step = extension(hello, at, known, ids)?;
+        types[count] = step.ext_type;
+        marks[mark(step.ext_type)] = true;
+        bodies[step.slot] = Span {
+            start: step.start,
+            length: step.end - step.start,
+        };
+        count += 1;
+        id_count += step.ids;
+        at = step.end;
     }
-    Survey {
-        number: 0,
+    Ok(Survey {
         count,
         bodies,
         id_count,
-    }
+    })
 }

@@ -1,16 +1,14 @@
 -- What the code's questions over bodies say, in terms of the forms. No call of document 01 cites this file.
-use Rattle.std.specs.Prelude.{ℕ, ◌+◌, ◌-◌, ◌%◌, ◌≤◌, ◌<◌, ◌≡◌, Bool, cond, ◌&&◌, List, length, take, drop, eqb, leb}
+use Rattle.std.specs.Prelude.{ℕ, ◌+◌, ◌-◌, ◌%◌, ◌≤◌, ◌<◌, ◌≡◌, Bool, cond, ◌&&◌, List, length, take, drop, eqb, leb, Some, None}
+use Rattle.std.specs.Prelude as std
 use Rattle.std.proofs.Math.Option.{Option, none, some}
 use Rattle.wire.specs.Numbers.{number}
 use Rattle.fingerprint_bodies.specs.Entries.{entry, or_empty}
 use Rattle.fingerprint_bodies.specs.Body.{Share, Body, Kind}
 use Rattle.fingerprint_bodies.specs.Forms.{one_name, one_share, body_of, ids_new, within_counts}
-use Rattle.fingerprint_bodies.specs.declared.Name.{Name}
-use Rattle.fingerprint_bodies.specs.declared.Name.TheVariants as name
 use Rattle.fingerprint_bodies.specs.declared.Share as code
-use Rattle.fingerprint_bodies.specs.declared.Share.TheVariants as share
 
--- ---- The questions of a body, as the number of the first "no"; 0 where there is none
+-- ---- The questions of a body, as the number of the first "no"; 0 where there is none (`told_number` of what the code answers)
 
 unfoldable pub formed : {A : Type 0} → Option A → ℕ
 formed none = 21
@@ -52,9 +50,10 @@ pub record NameFound (bs : List ℕ) (n : ℕ) : Type 0 where
   pub is : one_name bs ≡ some (entry (take n (drop 1 bs)) (drop (1 + n) bs))
   pub within : 1 + n ≤ length bs
 
-abbrev pub NameAs : Name → List ℕ → Type 0
-NameAs (name.Whole n) bs = NameFound bs n
-NameAs name.Cut bs = one_name bs ≡ none
+-- what the code finds: the length of the name
+abbrev pub NameAs : std.Option ℕ → List ℕ → Type 0
+NameAs (Some n) bs = NameFound bs n
+NameAs None bs = one_name bs ≡ none
 
 -- the share itself has the key too
 pub record ShareFound (bs : List ℕ) (group used : ℕ) : Type 0 where
@@ -64,6 +63,6 @@ pub record ShareFound (bs : List ℕ) (group used : ℕ) : Type 0 where
   pub some : 1 ≤ used
   pub within : used ≤ length bs
 
-abbrev pub ShareAs : code.Share → List ℕ → Type 0
-ShareAs (share.Whole g used) bs = ShareFound bs g used
-ShareAs share.Cut bs = one_share bs ≡ none
+abbrev pub ShareAs : std.Option code.Share → List ℕ → Type 0
+ShareAs (Some s) bs = ShareFound bs s.group s.used
+ShareAs None bs = one_share bs ≡ none

@@ -9,12 +9,12 @@ use Rattle.wire.specs.Answer.{result}
 use Rattle.fingerprint_bodies.specs.Entries.{all_entries}
 use Rattle.fingerprint_bodies.specs.Body as kind
 use Rattle.fingerprint_bodies.specs.Forms.{words_in, word_list, one_name, protocol_names, one_share, key_shares}
-use Rattle.fingerprint_lists.specs.declared.Span.{Span}
 use Rattle.fingerprint_lists.proofs.GoodLaws.{length-words_in, HoldsWords, words-after, FoundAfter, shares-after, names-after}
 use Rattle.fingerprint.specs.ClientHello.{ClientHello}
 use Rattle.fingerprint.specs.Reader.{read}
 use Rattle.fingerprint.specs.Report.{report}
 use Rattle.fingerprint.specs.Code.{part_of, note_of, Readable, FoundOf}
+use Rattle.fingerprint.specs.declared.head.Head.{Head}
 use Rattle.fingerprint.specs.declared.walk.Survey.{Survey}
 use Rattle.fingerprint.proofs.ReportLaws.{length-note, good-groups, good-algorithms, good-protocols, good-versions, good-shares}
 use Rattle.fingerprint.proofs.ShownLaws.{in-range}
@@ -24,7 +24,7 @@ pub few_words : (l : List ℕ) → length l ≤ 128 → length (words_in l) ≤ 
 few_words l h = omega (arith, length-words_in l)
 
 -- the body b was cut out of the hello, and the list l out of the body
-module _ {h : List ℕ} {suites : Span} {found : Survey} (p : Readable h suites found) {b l : List ℕ} where
+module _ {h : List ℕ} {head : Head} {found : Survey} (p : Readable h head found) {b l : List ℕ} where
   pub groups-held : b ≡ part_of h (note_of found kind.groups) → l ≡ drop 2 b → HoldsWords l (word_list 2 (part_of h (note_of found kind.groups)))
   groups-held e q = rw (q, e) (words-after 2 (part_of h (note_of found kind.groups)) (omega arith) (good-groups p))
 
@@ -47,7 +47,7 @@ module _ {h : List ℕ} {suites : Span} {found : Survey} (p : Readable h suites 
       omega (arith, ap length q, length-drop 2 b, ap length e, length-note p kind.protocols, p.inside kind.protocols, p.short)
 
 -- the ids of an accepted hello fill their array
-pub length_ids : {h : List ℕ} {session : ℕ} {suites : Span} {found : Survey} {types ids : List ℕ} {v : ClientHello}
-    → Bytes h → read h ≡ result v → FoundOf h session suites found types ids v → length ids ≡ 64
+pub length_ids : {h : List ℕ} {head : Head} {found : Survey} {types ids : List ℕ} {v : ClientHello}
+    → Bytes h → read h ≡ result v → FoundOf h head found types ids v → length ids ≡ 64
 unfolding report
 length_ids {h} {v = v} b e f = ap length f.ids-are.are ∙ length-padded 64 0 (report v).transport_param_ids (in-range h b v e).counts.ids

@@ -8,16 +8,15 @@ use Rattle.fingerprint_lists.specs.declared.Span.{Span}
 use Rattle.fingerprint.specs.Code.{type_number}
 use Rattle.fingerprint.specs.InRange.{group_number, Counts}
 use Rattle.fingerprint.specs.declared.Fingerprint.{Fingerprint}
-use Rattle.fingerprint.specs.declared.Sni.{Sni}
-use Rattle.fingerprint.specs.declared.Sni.TheVariants.{At, Absent}
+use Rattle.std.specs.Prelude.{Option, Some, None}
 use Rattle.fingerprint_layout.specs.Layout.{littles, ranges, name_numbers, count_numbers, list_numbers, layout}
 use Rattle.fingerprint_layout.proofs.PieceLaws.{littles-append, length-littles}
 use Rattle.fingerprint_layout.proofs.PadLaws.{length-ranges}
 
-pub length-name : (s : Sni) → length (name_numbers s) ≡ 3
+pub length-name : (s : Option Span) → length (name_numbers s) ≡ 3
 unfolding name_numbers
-length-name (At s) = refl
-length-name Absent = refl
+length-name (Some s) = refl
+length-name None = refl
 
 pub length-counts : (f : Fingerprint) → length (littles 2 (count_numbers f)) ≡ 24
 unfolding count_numbers

@@ -13,7 +13,7 @@ use Rattle.fingerprint.specs.Reader.{read}
 use Rattle.fingerprint.specs.Report.{report, parsed_of}
 use Rattle.fingerprint.specs.declared.Fingerprint.{Fingerprint}
 use Rattle.fingerprint.proofs.ShownLaws.{in-range, shown-sane}
-use Rattle.fingerprint_layout.specs.Layout.{littles, ranges, count_numbers, list_numbers, layout}
+use Rattle.fingerprint_layout.specs.Layout.{littles, ranges, count_numbers, list_numbers, layout, reported}
 use Rattle.fingerprint_layout.proofs.PieceLaws.{littles-append}
 use Rattle.fingerprint_layout.proofs.LayoutLaws.{length-counts, words_long, items-long, ranges-long, layout-long}
 
@@ -76,12 +76,12 @@ module _ (f : Fingerprint) (c : Counts f) where
 
 -- of every hello that is accepted
 module _ (h : List ℕ) (b : Bytes h) (v : ClientHello) (e : read h ≡ result v) where
-  accepted-counts : Counts (parsed_of (read h))
+  accepted-counts : Counts (reported (read h))
   unfolding parsed_of
-  accepted-counts = rw e (shown-sane h 0 (report v) (in-range h b v e)).counts
+  accepted-counts = rw e (shown-sane h (report v) (in-range h b v e)).counts
 
-  pub accepted-long : length (layout (parsed_of (read h))) ≡ 1368
-  accepted-long = layout-long (parsed_of (read h)) accepted-counts
+  pub accepted-long : length (layout (reported (read h))) ≡ 1368
+  accepted-long = layout-long (reported (read h)) accepted-counts
 
-  pub accepted-offsets : Offsets (parsed_of (read h))
-  accepted-offsets = offsets (parsed_of (read h)) accepted-counts
+  pub accepted-offsets : Offsets (reported (read h))
+  accepted-offsets = offsets (reported (read h)) accepted-counts

@@ -1,7 +1,7 @@
 -- A list written item by item, each in as many bytes as the others: what a loop keeps. Assumes nothing.
 use Prim.Native.Nat.{ℕ, zero, suc, ◌+◌, ◌*◌, ◌/◌, ◌≤◌}
 use mathlib.Core.Path.{◌≡◌, refl, sym, ap, ◌∙◌}
-use mathlib.Core.List.{List, [], ◌∷◌, ◌++◌, append_assoc, append-nil}
+use mathlib.Core.List.{List, [], ◌∷◌, ◌++◌, map, map-id, append_assoc, append-nil}
 use native.Mathlib.Nat.{mul-zero, mul-add}
 use native.Mathlib.Omega.{arith}
 use lib.ListN.{length, length-append}
@@ -81,6 +81,16 @@ pub numbers-are : (w : ℕ) (vs : List ℕ) → pieces (little w) vs ≡ littles
 unfolding pieces littles
 numbers-are w [] = refl
 numbers-are w (v ∷ vs) = ap (λ (l : List ℕ). little w v ++ l) (numbers-are w vs)
+
+-- the same of values that stand for numbers
+pub values-are : {A : Type 0} (w : ℕ) (number : A → ℕ) (xs : List A) → pieces (λ x. little w (number x)) xs ≡ littles w (map number xs)
+unfolding pieces littles
+values-are w number [] = refl
+values-are w number (x ∷ xs) = ap (λ (l : List ℕ). little w (number x) ++ l) (values-are w number xs)
+
+-- numbers that stand for themselves
+pub plainly : (w : ℕ) (vs old : List ℕ) {new : List ℕ} → new ≡ front (littles w (map (λ (v : ℕ). v) vs)) old → new ≡ front (littles w vs) old
+plainly w vs old e = e ∙ ap (λ (l : List ℕ). front (littles w l) old) (map-id vs)
 
 pub littles-append : (w : ℕ) (a b : List ℕ) → littles w (a ++ b) ≡ littles w a ++ littles w b
 unfolding littles

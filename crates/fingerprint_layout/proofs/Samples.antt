@@ -16,7 +16,7 @@ use Rattle.fingerprint.specs.ClientHello.{ClientHello}
 use Rattle.fingerprint.specs.Reader.{one_extension, ask_body, extension, walk, all_extensions, after_suites, after_session, fields, read_extensions, read_body, read_fields, read}
 use Rattle.fingerprint.specs.Report.{numbers_in, names_in, gathered, block_place, first_of, report, sni_of, shown, parsed_of}
 use Rattle.fingerprint.proofs.Samples.{hello_of, hello_with}
-use Rattle.fingerprint_layout.specs.Layout.{little, littles, ranges, name_numbers, count_numbers, list_numbers, layout, report_of}
+use Rattle.fingerprint_layout.specs.Layout.{little, littles, ranges, name_numbers, count_numbers, list_numbers, layout, reported, report_of}
 
 -- a hello with one suite, 1301, two groups, 001d and 0102, and one key share, of 001d
 abbrev pub block : List ℕ
@@ -46,7 +46,7 @@ bytes =
     ∷ (0x1d ∷ 0x00 ∷ 0x00 ∷ 0x00 ∷ [])
     ∷ []
 
-pub written : map (λ at. take 4 (drop at (layout (parsed_of (read (hello_with block)))))) places ≡ bytes
+pub written : map (λ at. take 4 (drop at (layout (reported (read (hello_with block)))))) places ≡ bytes
 unfolding
     hello_of hello_with vector digits number number_on read read_fields read_body whole vector_at number_at taken bind mapped fields at_most after_session even_words words_in
     after_suites at_least read_extensions all_extensions walk extension one_extension ask_body member any kind body_of word_list one_share key_shares first entries

@@ -14,7 +14,8 @@ use Rattle.fingerprint.specs.ClientHello.{ClientHello}
 use Rattle.fingerprint.specs.Report.{report, shown}
 use Rattle.fingerprint.specs.Code.{note_of, name_in, type_number, FoundOf}
 use Rattle.fingerprint.specs.declared.Fingerprint.{Fingerprint}
-use Rattle.fingerprint.specs.declared.Sni.{Sni}
+use Rattle.std.specs.Prelude.{Option}
+use Rattle.fingerprint.specs.declared.head.Head.{Head}
 use Rattle.fingerprint.specs.declared.walk.Survey.{Survey}
 use Rattle.fingerprint.proofs.ReportLaws.{report-shown}
 use Rattle.fingerprint_layout.specs.Layout.{littles, ranges, name_numbers, count_numbers, list_numbers, layout}
@@ -57,14 +58,13 @@ first_taken n l h = sym (rw (length-take-le n l h) (take-append-drop n l))
 type-numbers : (l : List ℕ) → map type_number (map ext_type l) ≡ l
 type-numbers l = map-map type_number ext_type l ∙ map-id l
 
-module _ {h : List ℕ} {session : ℕ} {suites : Span} {found : Survey} {types ids : List ℕ} {v : ClientHello} (f : FoundOf h session suites found types ids v) where
+module _ {h : List ℕ} {head : Head} {found : Survey} {types ids : List ℕ} {v : ClientHello} (f : FoundOf h head found types ids v) where
   -- the report as the code finds its fields
   abbrev fields : Fingerprint
   fields = record {
-    number = 0;
-    legacy_session_id_len = session;
-    cipher_suites = (words_of (suites_in h suites)).items;
-    suite_count = (words_of (suites_in h suites)).count;
+    legacy_session_id_len = head.session;
+    cipher_suites = (words_of (suites_in h head)).items;
+    suite_count = (words_of (suites_in h head)).count;
     extensions = map ext_type types;
     extension_count = found.count;
     supported_groups = (groups_of (groups_in h found)).items;
@@ -82,10 +82,10 @@ module _ {h : List ℕ} {session : ℕ} {suites : Span} {found : Survey} {types 
     id_count = found.id_count;
   }
 
-  fields-shown : fields ≡ shown 0 (report v)
+  fields-shown : fields ≡ shown (report v)
   fields-shown =
       report-shown f
-      (words_of (suites_in h suites))
+      (words_of (suites_in h head))
       (map ext_type types)
       (groups_of (groups_in h found))
       (groups_of (shares_in h found))
@@ -103,15 +103,15 @@ module _ {h : List ℕ} {session : ℕ} {suites : Span} {found : Survey} {types 
       refl
 
   parts : littles 2 (count_numbers fields)
-      ++ (first_bytes (suites_in h suites) types (groups_in h found) (shares_in h found)
+      ++ (first_bytes (suites_in h head) types (groups_in h found) (shares_in h found)
       ++ last_bytes (algorithms_in h found) (versions_in h found) (protocols_in h found) ids) ≡ layout fields
   unfolding layout list_numbers first_bytes last_bytes words_of groups_of spans_of
   parts = simp (littles-append, append_assoc, group-numbers, type-numbers)
 
   pub layout-found :
       littles 2 (
-      session
-      ∷ length (suites_in h suites)
+      head.session
+      ∷ length (suites_in h head)
       ∷ found.count
       ∷ length (groups_in h found)
       ∷ length (shares_in h found)
@@ -121,13 +121,13 @@ module _ {h : List ℕ} {session : ℕ} {suites : Span} {found : Survey} {types 
       ∷ found.id_count
       ∷ name_numbers (name_in (note_of found kind.name))
       )
-      ++ (first_bytes (suites_in h suites) types (groups_in h found) (shares_in h found)
-      ++ last_bytes (algorithms_in h found) (versions_in h found) (protocols_in h found) ids) ≡ layout (shown 0 (report v))
+      ++ (first_bytes (suites_in h head) types (groups_in h found) (shares_in h found)
+      ++ last_bytes (algorithms_in h found) (versions_in h found) (protocols_in h found) ids) ≡ layout (shown (report v))
   unfolding count_numbers words_of groups_of spans_of
   layout-found = parts ∙ ap layout fields-shown
 
 -- the counts of what was found
-module _ (session : ℕ) (found : Survey) (first : FirstCounts) (last : LastCounts) (name : Sni) where
+module _ (session : ℕ) (found : Survey) (first : FirstCounts) (last : LastCounts) (name : Option Span) where
   abbrev pub counts_found : List ℕ
   counts_found =
       session
@@ -142,15 +142,15 @@ module _ (session : ℕ) (found : Survey) (first : FirstCounts) (last : LastCoun
       ∷ name_numbers name
 
 pub report-put :
-    {h : List ℕ} {session : ℕ} {suites : Span} {found : Survey} {types ids : List ℕ}
-    {first : FirstCounts} {last : LastCounts} {part part' new : List ℕ} {name : Sni} (old : List ℕ) → 24 ≤ length old
-    → FirstPut h suites found types first (lent_from 24 old) part
+    {h : List ℕ} {head : Head} {found : Survey} {types ids : List ℕ}
+    {first : FirstCounts} {last : LastCounts} {part part' new : List ℕ} {name : Option Span} (old : List ℕ) → 24 ≤ length old
+    → FirstPut h head found types first (lent_from 24 old) part
     → LastPut h found ids last (lent_from 536 (back_from 24 old part)) part'
     → name ≡ name_in (note_of found kind.name)
-    → new ≡ front (littles 2 (counts_found session found first last name)) (back_from 536 (back_from 24 old part) part')
-    → ReportPut h session suites found types ids old new
-report-put {session = session} {found = found} {first = first} {last = last} {name = name} old room p q n e =
-    let counts = counts_found session found first last name in
+    → new ≡ front (littles 2 (counts_found head.session found first last name)) (back_from 536 (back_from 24 old part) part')
+    → ReportPut h head found types ids old new
+report-put {head = head} {found = found} {first = first} {last = last} {name = name} old room p q n e =
+    let counts = counts_found head.session found first last name in
     let taken : length (take 24 old) ≡ 24 = length-take-le 24 old room in
     let long : length (littles 2 counts) ≡ length (take 24 old) = omega (arith, length-littles 2 counts, length-name name) in
     let lists = joined (joined (filled taken (first_taken 24 old room)) p.put) q.put in

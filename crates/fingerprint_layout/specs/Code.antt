@@ -5,10 +5,10 @@ use Rattle.fingerprint_bodies.specs.Entries.{or_empty}
 use Rattle.fingerprint_bodies.specs.Body as kind
 use Rattle.fingerprint_bodies.specs.Forms.{words_in, word_list, protocol_names, key_shares, group_of}
 use Rattle.fingerprint_lists.specs.Arrays.{span, padded, Part, span_of, placed}
-use Rattle.fingerprint_lists.specs.declared.Span.{Span}
 use Rattle.fingerprint.specs.ClientHello.{ClientHello}
 use Rattle.fingerprint.specs.Report.{report, shown}
 use Rattle.fingerprint.specs.Code.{part_of, note_of, FoundOf}
+use Rattle.fingerprint.specs.declared.head.Head.{Head}
 use Rattle.fingerprint.specs.declared.walk.Survey.{Survey}
 use Rattle.fingerprint_layout.specs.Layout.{littles, ranges, layout}
 use Rattle.fingerprint_layout.specs.declared.FirstCounts.{FirstCounts}
@@ -20,8 +20,8 @@ zeros n = replicate n 0
 
 -- ---- The lists, as the hello holds them
 
-abbrev pub suites_in : List ℕ → Span → List ℕ
-suites_in h suites = words_in (part_of h suites)
+abbrev pub suites_in : List ℕ → Head → List ℕ
+suites_in h head = words_in (part_of h head.suites)
 
 abbrev pub groups_in : List ℕ → Survey → List ℕ
 groups_in h found = or_empty (word_list 2 (part_of h (note_of found kind.groups)))
@@ -50,11 +50,11 @@ unfoldable pub last_bytes : List ℕ → List ℕ → List Part → List ℕ →
 last_bytes algorithms versions protocols ids =
     littles 2 (padded 64 0 algorithms) ++ (littles 2 (padded 64 0 versions) ++ (littles 2 (ranges (padded 16 (span 0 0) (map span_of protocols))) ++ littles 8 ids))
 
-pub record FirstPut (h : List ℕ) (suites : Span) (found : Survey) (types : List ℕ) (r : FirstCounts) (old new : List ℕ) : Type 0 where
-  pub suite-count : r.suites ≡ length (suites_in h suites)
+pub record FirstPut (h : List ℕ) (head : Head) (found : Survey) (types : List ℕ) (r : FirstCounts) (old new : List ℕ) : Type 0 where
+  pub suite-count : r.suites ≡ length (suites_in h head)
   pub group-count : r.groups ≡ length (groups_in h found)
   pub share-count : r.shares ≡ length (shares_in h found)
-  pub put : Put (first_bytes (suites_in h suites) types (groups_in h found) (shares_in h found)) 512 old new
+  pub put : Put (first_bytes (suites_in h head) types (groups_in h found) (shares_in h found)) 512 old new
 
 pub record LastPut (h : List ℕ) (found : Survey) (ids : List ℕ) (r : LastCounts) (old new : List ℕ) : Type 0 where
   pub algorithm-count : r.algorithms ≡ length (algorithms_in h found)
@@ -63,5 +63,5 @@ pub record LastPut (h : List ℕ) (found : Survey) (ids : List ℕ) (r : LastCou
   pub put : Put (last_bytes (algorithms_in h found) (versions_in h found) (protocols_in h found) ids) 832 old new
 
 -- the report of the ClientHello that was found
-pub record ReportPut (h : List ℕ) (session : ℕ) (suites : Span) (found : Survey) (types ids : List ℕ) (old new : List ℕ) : Type 0 where
-  pub is : (v : ClientHello) → FoundOf h session suites found types ids v → new ≡ front (layout (shown 0 (report v))) old
+pub record ReportPut (h : List ℕ) (head : Head) (found : Survey) (types ids : List ℕ) (old new : List ℕ) : Type 0 where
+  pub is : (v : ClientHello) → FoundOf h head found types ids v → new ≡ front (layout (shown (report v))) old

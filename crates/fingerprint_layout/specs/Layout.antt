@@ -1,15 +1,13 @@
 -- A report in the layout of include/crustdelta.h: the fields of `Fingerprint` one after the other, each number little endian.
-use Rattle.std.specs.Prelude.{ℕ, zero, suc, ◌/◌, ◌%◌, ◌≡◌, List, [], ◌∷◌, ◌++◌, map, length, leb}
-use Rattle.wire.specs.Answer.{Answer, result, ask, and_then, unless_refused, coded}
+use Rattle.std.specs.Prelude.{ℕ, zero, suc, ◌/◌, ◌%◌, ◌≡◌, List, [], ◌∷◌, ◌++◌, map, length, leb, Option, Some, None}
+use Rattle.wire.specs.Answer.{Answer, result, ask, and_then, unless_refused, coded, told}
 use Rattle.wire.specs.Front.{front}
 use Rattle.fingerprint_lists.specs.declared.Span.{Span}
 use Rattle.fingerprint.specs.Code.{type_number}
 use Rattle.fingerprint.specs.InRange.{group_number}
 use Rattle.fingerprint.specs.ClientHello.{ClientHello}
-use Rattle.fingerprint.specs.Report.{parsed_of}
+use Rattle.fingerprint.specs.Report.{shown, empty_report, parsed_of}
 use Rattle.fingerprint.specs.declared.Fingerprint.{Fingerprint}
-use Rattle.fingerprint.specs.declared.Sni.{Sni}
-use Rattle.fingerprint.specs.declared.Sni.TheVariants.{At, Absent}
 
 -- the n low bytes of a number, the lowest first
 unfoldable pub little : ℕ → ℕ → List ℕ
@@ -27,9 +25,9 @@ ranges [] = []
 ranges (s ∷ ss) = s.start ∷ s.length ∷ ranges ss
 
 -- a name is counted, 0 or 1, and has its range; zeros where it is absent
-unfoldable pub name_numbers : Sni → List ℕ
-name_numbers (At s) = 1 ∷ s.start ∷ s.length ∷ []
-name_numbers Absent = 0 ∷ 0 ∷ 0 ∷ []
+unfoldable pub name_numbers : Option Span → List ℕ
+name_numbers (Some s) = 1 ∷ s.start ∷ s.length ∷ []
+name_numbers None = 0 ∷ 0 ∷ 0 ∷ []
 
 -- the counts, and the name
 unfoldable pub count_numbers : Fingerprint → List ℕ
@@ -59,6 +57,10 @@ list_numbers f =
 unfoldable pub layout : Fingerprint → List ℕ
 layout f = littles 2 (count_numbers f ++ list_numbers f) ++ littles 8 f.transport_param_ids
 
+-- the report of a hello; where it is refused, the empty one
+abbrev pub reported : Answer ClientHello → Fingerprint
+reported a = (told (shown empty_report) (parsed_of a)).values
+
 -- the length of the report; after the reader's questions: does the buffer hold it? 100, which is no number of document 01
 unfoldable pub report_of : Answer ClientHello → ℕ → Answer ℕ
 report_of a room = and_then a (λ v. ask (leb 1368 room) 100 (result 1368))
@@ -66,4 +68,4 @@ report_of a room = and_then a (λ v. ask (leb 1368 room) 100 (result 1368))
 -- what the call answers and leaves: the report over the front of the buffer, or all of the buffer as it was
 pub record ReportCoded (a : Answer ClientHello) (old : List ℕ) (r : ℕ) (new : List ℕ) : Type 0 where
   pub is : r ≡ coded (report_of a (length old))
-  pub output : new ≡ unless_refused (report_of a (length old)) (λ n. front (layout (parsed_of a)) old) old
+  pub output : new ≡ unless_refused (report_of a (length old)) (λ n. front (layout (reported a)) old) old

@@ -10,21 +10,22 @@ ghost use Rattle.std.specs.Prelude.{◌≡◌, ◌≤◌, length};
 ghost use Rattle.fingerprint.specs.Code.{Readable};
 ghost use Rattle.fingerprint_layout.specs.Code.{FirstPut, LastPut, ReportPut};
 
+use fingerprint::head::Head;
 use fingerprint::report::{name_in, part};
 use fingerprint::walk::Survey;
-use fingerprint_lists::{Span, after};
+use fingerprint_lists::after;
 use lists::{put_list, put_names, put_shares};
-use numbers::{clear, put_counts, put_ids, put_words};
+use numbers::{clear, put_counts, put_numbers};
 
 // How many entries each list has.
-#[derive(Clone, Copy)]
+#[derive(Clone, Copy, PartialEq, Eq, Debug)]
 pub struct FirstCounts {
     pub suites: usize,
     pub groups: usize,
     pub shares: usize,
 }
 
-#[derive(Clone, Copy)]
+#[derive(Clone, Copy, PartialEq, Eq, Debug)]
 pub struct LastCounts {
     pub algorithms: usize,
     pub versions: usize,
@@ -35,17 +36,17 @@ pub struct LastCounts {
 fn put_first_lists(
     out: &mut [u8],
     hello: &[u8],
-    suites: Span,
+    head: Head,
     found: Survey,
     types: &[u16; 64],
 ) -> FirstCounts
-    requires { (512 ≤ length out.old) × Readable hello.now suites found × (length types.now ≡ 64) }
-    ensures { FirstPut hello.now suites found types.now result out.old out.new }
+    requires { (512 ≤ length out.old) × Readable hello.now head found × (length types.now ≡ 64) }
+    ensures { FirstPut hello.now head found types.now result out.old out.new }
 {
     let bodies = found.bodies;
     clear(out, 512);
-    let suite_count = put_list(out, part(hello, suites));
-    put_words(&mut out[128..], types);
+    let suite_count = put_list(out, part(hello, head.suites));
+    put_numbers(&mut out[128..], types);
     let group_count = put_list(&mut out[256..], after(part(hello, bodies[1]), 2));
     let share_count = put_shares(&mut out[384..], after(part(hello, bodies[5]), 2));
     FirstCounts {
@@ -59,11 +60,11 @@ fn put_first_lists(
 fn put_last_lists(
     out: &mut [u8],
     hello: &[u8],
-    suites: Span,
+    head: Head,
     found: Survey,
     ids: &[u64; 64],
 ) -> LastCounts
-    requires { (832 ≤ length out.old) × Readable hello.now suites found × (length ids.now ≡ 64) }
+    requires { (832 ≤ length out.old) × Readable hello.now head found × (length ids.now ≡ 64) }
     ensures { LastPut hello.now found ids.now result out.old out.new }
 {
     let bodies = found.bodies;
@@ -76,7 +77,7 @@ fn put_last_lists(
         after(part(hello, at_protocols), 2),
         at_protocols.start + 2,
     );
-    put_ids(&mut out[320..], ids);
+    put_numbers(&mut out[320..], ids);
     LastCounts {
         algorithms: algorithm_count,
         versions: version_count,
@@ -88,19 +89,18 @@ fn put_last_lists(
 pub fn put_report(
     out: &mut [u8],
     hello: &[u8],
-    session: usize,
-    suites: Span,
+    head: Head,
     found: Survey,
     types: &[u16; 64],
     ids: &[u64; 64],
 )
-    requires { (1368 ≤ length out.old) × Readable hello.now suites found × (length types.now ≡ 64) × (length ids.now ≡ 64) }
-    ensures { ReportPut hello.now session suites found types.now ids.now out.old out.new }
+    requires { (1368 ≤ length out.old) × Readable hello.now head found × (length types.now ≡ 64) × (length ids.now ≡ 64) }
+    ensures { ReportPut hello.now head found types.now ids.now out.old out.new }
 {
-    let first = put_first_lists(&mut out[24..], hello, suites, found, types);
-    let last = put_last_lists(&mut out[536..], hello, suites, found, ids);
+    let first = put_first_lists(&mut out[24..], hello, head, found, types);
+    let last = put_last_lists(&mut out[536..], hello, head, found, ids);
     let counts: [usize; 9] = [
-        session,
+        head.session,
         first.suites,
         found.count,
         first.groups,

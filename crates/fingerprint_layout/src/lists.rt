@@ -8,8 +8,8 @@ ghost use Rattle.fingerprint_bodies.specs.Code.{Found};
 ghost use Rattle.fingerprint_lists.specs.Arrays.{span_of, placed};
 ghost use Rattle.fingerprint_layout.specs.Layout.{littles, ranges};
 
-use crate::numbers::{put_range, put_word};
-use fingerprint_bodies::{Name, Share};
+use crate::numbers::{Little, put_range};
+use fingerprint_bodies::{one_name, one_share};
 use fingerprint_lists::Span;
 use wire::be16;
 
@@ -19,10 +19,8 @@ pub fn put_list(out: &mut [u8], list: &[u8]) -> usize
     ensures { (result ≡ length (words_in list.now)) × (out.new ≡ front (littles 2 (words_in list.now)) out.old) }
 {
     let n = list.len() / 2;
-    let mut i: usize = 0;
-    while i < n {
-        put_word(&mut out[2 * i..], be16(&list[2 * i..]));
-        i = i + 1;
+    for i in 0..n {
+        be16(&list[2 * i..]).put(&mut out[2 * i..]);
     }
     n
 }
@@ -33,15 +31,16 @@ pub fn put_shares(out: &mut [u8], list: &[u8]) -> usize
     ensures { (result ≡ length (map group_of (or_empty (all_entries one_share list.now)))) × (out.new ≡ front (littles 2 (map group_of (or_empty (all_entries one_share list.now)))) out.old) }
 {
     let n = list.len();
-    let mut at: usize = 0;
-    let mut k: usize = 0;
+    let mut at = 0;
+    let mut k = 0;
+    // A place and not an item: each step takes as many bytes as the entry has.
     while at < n {
-        let Share::Whole(group, used) = fingerprint_bodies::one_share(&list[at..]) else {
+        let Some(share) = one_share(&list[at..]) else {
             break;
         };
-        put_word(&mut out[2 * k..], group);
-        at = at + used;
-        k = k + 1;
+        share.group.put(&mut out[2 * k..]);
+        at += share.used;
+        k += 1;
     }
     k
 }
@@ -52,10 +51,11 @@ pub fn put_names(out: &mut [u8], list: &[u8], start: usize) -> usize
     ensures { (result ≡ length (placed start (or_empty (all_entries one_name list.now)))) × (out.new ≡ front (littles 2 (ranges (map span_of (placed start (or_empty (all_entries one_name list.now)))))) out.old) }
 {
     let n = list.len();
-    let mut at: usize = 0;
-    let mut k: usize = 0;
+    let mut at = 0;
+    let mut k = 0;
+    // A place and not an item: each step takes as many bytes as the entry has.
     while at < n {
-        let Name::Whole(length) = fingerprint_bodies::one_name(&list[at..]) else {
+        let Some(length) = one_name(&list[at..]) else {
             break;
         };
         put_range(
@@ -65,8 +65,8 @@ pub fn put_names(out: &mut [u8], list: &[u8], start: usize) -> usize
                 length,
             },
         );
-        at = at + 1 + length;
-        k = k + 1;
+        at += 1 + length;
+        k += 1;
     }
     k
 }

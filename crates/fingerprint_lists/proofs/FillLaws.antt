@@ -1,7 +1,7 @@
 -- Filling an array with a list's entries, one after the other: what a loop keeps. Assumes nothing.
 use Prim.Native.Nat.{ℕ, suc, ◌+◌, ◌-◌, ◌≤◌, ◌<◌}
 use mathlib.Core.Path.{◌≡◌, refl, sym, ap, ◌∙◌}
-use mathlib.Core.List.{List, [], ◌∷◌, ◌++◌}
+use mathlib.Core.List.{List, [], ◌∷◌, ◌++◌, append-nil}
 use native.Mathlib.Omega.{arith}
 use native.Mathlib.Numerals.{add-one}
 use native.Mathlib.Nat.{sub-zero}
@@ -73,3 +73,10 @@ module _ {A : Type 0} {m : ℕ} {z : A} {p : List A} {k : ℕ} {items rest : Lis
 -- a loop over a list's places: what is left at one, and at the next
 pub items-next : {A : Type 0} (items : List A) (i : ℕ) (d : A) → i < length items → drop i items ≡ get_or items i d ∷ drop (i + 1) items
 items-next items i d h = rw (add-one i) (drop-cons items i d h)
+
+-- a list that fills the array
+pub padded-full : {A : Type 0} (m : ℕ) (z : A) (l : List A) → length l ≡ m → padded m z l ≡ l
+unfolding padded
+padded-full m z l e =
+    let none : m - length l ≡ 0 = omega (arith, e) in
+    rw none (append-nil l)

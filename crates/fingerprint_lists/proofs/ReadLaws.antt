@@ -1,15 +1,18 @@
 -- What the loops that read lists out of bodies need, and the structs that they make. Assumes nothing.
 use Prim.Native.Nat.{ℕ, suc, ◌+◌, ◌-◌, ◌*◌, ◌/◌, ◌<◌, ◌≤◌}
-use mathlib.Core.Path.{◌≡◌, refl, ◌∙◌}
+use mathlib.Core.Path.{◌≡◌, refl, ap, ◌∙◌}
 use mathlib.Core.List.{List, [], ◌∷◌, map}
 use native.Mathlib.Omega.{arith}
-use lib.ListN.{length, take, drop, length-drop, length-map}
+use lib.ListN.{length, take, drop, replicate, length-drop, length-map}
 use lib.Seq.{drop-cons}
+use lib.LanesLaws.{map-replicate}
+use Rattle.std.proofs.lemmas.List.{map-append}
 use Rattle.wire.specs.Numbers.{number}
 use Rattle.wire.proofs.ListLaws.{part_to_end}
 use Rattle.fingerprint_bodies.specs.Forms.{words_in}
-use Rattle.profiles.specs.declared.Group.{Group}
 use Rattle.fingerprint_lists.specs.declared.Span.{Span}
+use Rattle.fingerprint_lists.specs.declared.Words.{Words}
+use Rattle.fingerprint_lists.specs.declared.Groups.{Groups}
 use Rattle.fingerprint_lists.specs.Arrays.{group, span, padded, words_of, groups_of, Part, span_of, spans_of}
 
 -- ---- 16-bit numbers
@@ -34,13 +37,21 @@ module _ (l : List ℕ) (i : ℕ) where
 
 -- ---- the structs
 
+map-padded : (m : ℕ) (l : List ℕ) → map group (padded m 0 l) ≡ padded m (group 0) (map group l)
+unfolding padded
+map-padded m l = map-append group l (replicate (m - length l) 0) ∙ rw (length-map l group, map-replicate group (m - length l) 0) refl
+
 pub words_same : (l items : List ℕ) (n : ℕ) → items ≡ padded 64 0 l → n ≡ length l → record { items = items; count = n } ≡ words_of l
 unfolding words_of
 words_same l items n p q = λ i. record { items = p i; count = q i }
 
-pub groups-same : (l : List ℕ) (items : List Group) (n : ℕ) → items ≡ padded 64 (group 0) (map group l) → n ≡ length (map group l) → record { items = items; count = n } ≡ groups_of l
-unfolding groups_of
-groups-same l items n p q = λ i. record { items = p i; count = (q ∙ length-map l group) i }
+-- words, and the groups that they name
+pub groups-from : (w : Words) (g : Groups) (l : List ℕ) → w ≡ words_of l → g.items ≡ map group w.items → g.count ≡ w.count → g ≡ groups_of l
+unfolding words_of groups_of
+groups-from w g l e p q =
+    let items : g.items ≡ padded 64 (group 0) (map group l) = p ∙ ap (λ (x : Words). map group x.items) e ∙ map-padded 64 l in
+    let count : g.count ≡ length l = q ∙ ap (λ (x : Words). x.count) e in
+    λ i. record { items = items i; count = count i }
 
 pub spans-same : (l : List Part) (items : List Span) (n : ℕ) → items ≡ padded 16 (span 0 0) (map span_of l) → n ≡ length (map span_of l) → record { items = items; count = n } ≡ spans_of l
 unfolding spans_of

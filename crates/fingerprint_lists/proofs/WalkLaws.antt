@@ -12,10 +12,9 @@ use Rattle.fingerprint_bodies.specs.Entries.{Entry, entry, or_empty, all_entries
 use Rattle.fingerprint_bodies.specs.Body as value
 use Rattle.fingerprint_bodies.specs.Forms.{one_name, one_share, group_of}
 use Rattle.fingerprint_bodies.specs.Code.{Found, NameAs, ShareAs}
-use Rattle.fingerprint_bodies.specs.declared.Name.{Name}
-use Rattle.fingerprint_bodies.specs.declared.Name.TheVariants as name
 use Rattle.fingerprint_bodies.specs.declared.Share.{Share}
-use Rattle.fingerprint_bodies.specs.declared.Share.TheVariants as share
+use Rattle.std.specs.Prelude.{Some, None}
+use Rattle.std.specs.Prelude as std
 use Rattle.fingerprint_bodies.proofs.EntryLaws.{left, There, there-start, list-start, there-next, list-next, there-cut, list-end}
 use Rattle.fingerprint_lists.specs.declared.Span.{Span}
 use Rattle.fingerprint_lists.specs.Arrays.{span, span_of, placed}
@@ -100,16 +99,16 @@ module _ (l : List ℕ) where
   groups-end k at h = none_left one_share l groups_shown k at h refl
 
 -- by what `one_share` answers of the part `&l[at..]`
-module _ {l : List ℕ} {k at : ℕ} (w : SharesWalked l k at) (i : at < length l) (r : Share) (a : ShareAs r (take (length l - at) (drop at l))) where
-  there : {x : Share} → r ≡ x → ShareAs x (drop at l)
-  there e = subst (λ (x : Share). ShareAs x (drop at l)) e (rw (part_to_end l at) at a)
+module _ {l : List ℕ} {k at : ℕ} (w : SharesWalked l k at) (i : at < length l) (r : std.Option Share) (a : ShareAs r (take (length l - at) (drop at l))) where
+  there : {x : std.Option Share} → r ≡ x → ShareAs x (drop at l)
+  there e = subst (λ (x : std.Option Share). ShareAs x (drop at l)) e (rw (part_to_end l at) at a)
 
-  pub share-turn : {g used : ℕ} → r ≡ share.Whole g used → ShareTurn l k at (at + used) g
+  pub share-turn : {s : Share} → r ≡ Some s → ShareTurn l k at (at + s.used) s.group
   share-turn e =
       let f = there e in
       turn one_share l groups_shown w i f.is f.some f.within (λ x. ap (λ (g : ℕ). g ∷ map group_of x) f.group-is)
 
-  pub share-cut : r ≡ share.Cut → ⊥
+  pub share-cut : r ≡ None → ⊥
   share-cut e = cut one_share l groups_shown w i (there e)
 
 -- ---- names, shown as their parts of the hello; the first byte of l stands at `start` in the hello
@@ -161,17 +160,16 @@ spans-next start at n v p l =
     rw (e, p)
 
 -- by what `one_name` answers of the part `&l[at..]`
-module _ (start : ℕ) {l : List ℕ} {k at : ℕ} (w : NamesWalked start l k at) (i : at < length l) (r : Name) (a : NameAs r (take (length l - at) (drop at l))) where
-  named : {x : Name} → r ≡ x → NameAs x (drop at l)
-  named e = subst (λ (x : Name). NameAs x (drop at l)) e (rw (part_to_end l at) at a)
+module _ (start : ℕ) {l : List ℕ} {k at : ℕ} (w : NamesWalked start l k at) (i : at < length l) (r : std.Option ℕ) (a : NameAs r (take (length l - at) (drop at l))) where
+  named : {x : std.Option ℕ} → r ≡ x → NameAs x (drop at l)
+  named e = subst (λ (x : std.Option ℕ). NameAs x (drop at l)) e (rw (part_to_end l at) at a)
 
-  pub name-turn : {n : ℕ} → r ≡ name.Whole n → NameTurn start l k at (at + 1 + n) (span (start + at + 1) n)
+  pub name-turn : {n : ℕ} → r ≡ Some n → NameTurn start l k at (at + (1 + n)) (span (start + at + 1) n)
   name-turn {n} e =
       let f = named e in
       let bs = drop at l in
       let long = length-take-le n (drop 1 bs) (omega (arith, f.within, length-drop 1 bs)) in
-      let to : at + (1 + n) ≡ at + 1 + n = omega arith in
-      rw to at (turn one_name l (spans_shown start) w i f.is (omega arith) f.within (spans-next start at n (take n (drop 1 bs)) long))
+      turn one_name l (spans_shown start) w i f.is (omega arith) f.within (spans-next start at n (take n (drop 1 bs)) long)
 
-  pub name-cut : r ≡ name.Cut → ⊥
+  pub name-cut : r ≡ None → ⊥
   name-cut e = cut one_name l (spans_shown start) w i (named e)

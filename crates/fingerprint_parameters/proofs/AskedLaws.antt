@@ -18,16 +18,19 @@ use Rattle.fingerprint_bodies.specs.Code.{asked}
 use Rattle.fingerprint_bodies.proofs.EntryLaws.{There, Counts}
 use Rattle.fingerprint_bodies.proofs.AskLaws.{ids_asked, asked-parameters}
 use Rattle.fingerprint_parameters.specs.Code.{ids_of, ids_in, count_of, Kept, AskedIds}
-use Rattle.fingerprint_parameters.specs.declared.Count.TheVariants as count
+use Rattle.std.specs.Prelude.{Some, None, Ok, Err}
+use Rattle.wire.specs.Refusals.{question}
+use Rattle.wire.specs.declared.refusals.Refusal.{Refusal}
+use Rattle.wire.specs.declared.refusals.Refusal.TheVariants as no
 
 -- ---- what a count says of the list
 
-cut : (x : Option (List Parameter)) → count.Cut ≡ count_of (mapped (λ l. map id_of l) x) → ids_asked x ≡ 21
+cut : (x : Option (List Parameter)) → None ≡ count_of (mapped (λ l. map id_of l) x) → ids_asked x ≡ 21
 unfolding mapped
 cut none e = refl
 cut (some l) e = absurd (let z : ◌≡◌ {A = ℕ} 0 1 = cc in omega arith)
 
-counted : (x : Option (List Parameter)) (k : ℕ) → count.Are k ≡ count_of (mapped (λ l. map id_of l) x) → Counts x k
+counted : (x : Option (List Parameter)) (k : ℕ) → Some k ≡ count_of (mapped (λ l. map id_of l) x) → Counts x k
 unfolding mapped or_empty
 counted none k e = absurd (let z : ◌≡◌ {A = ℕ} 0 1 = cc in omega arith)
 counted (some l) k e = let q : k ≡ length (map id_of l) = cc in record { there = refl; long = sym (q ∙ length-map l id_of) }
@@ -45,16 +48,15 @@ there-asked (some l) t = refl
 -- ---- the answers
 
 -- a refusal says nothing of the array, but that it is as long
-no : (bs old new : List ℕ) (n : ℕ) → n ≡ asked parameters bs → (n ≡ 0 → ⊥) → length new ≡ 64 → AskedIds bs (record { number = n; ids = 0 }) old new
-no bs old new n e z l = record { is = e; count = λ q. absurd (z q); output = λ q. absurd (z q); size = l }
+refuses : (bs old new : List ℕ) (e : Refusal) → question e ≡ asked parameters bs → length new ≡ 64 → AskedIds bs (Err e) old new
+refuses bs old new e q l = record { is = q; count = tt; output = tt; size = l }
 
-pub asked-cut : (bs old new : List ℕ) → length old ≡ 64 → Kept (ids_of bs) count.Cut old new
-    → AskedIds bs (record { number = 21; ids = 0 }) old new
+pub asked-cut : (bs old new : List ℕ) → length old ≡ 64 → Kept (ids_of bs) None old new → AskedIds bs (Err no.ExtensionMalformed) old new
 unfolding ids_of
 asked-cut bs old new o h =
-    no bs old new 21 (sym (asked-parameters bs ∙ cut (transport_parameters bs) h.is)) (λ z. omega (arith, z)) (h.size ∙ o)
+    refuses bs old new no.ExtensionMalformed (sym (asked-parameters bs ∙ cut (transport_parameters bs) h.is)) (h.size ∙ o)
 
-module _ (bs old new : List ℕ) (k : ℕ) (h : Kept (ids_of bs) (count.Are k) old new) where
+module _ (bs old new : List ℕ) (k : ℕ) (h : Kept (ids_of bs) (Some k) old new) where
   all : Counts (transport_parameters bs) k
   unfolding ids_of
   all = counted (transport_parameters bs) k h.is
@@ -84,22 +86,22 @@ module _ (bs old new : List ℕ) (k : ℕ) (h : Kept (ids_of bs) (count.Are k) o
 
   -- the array of `ask_parameters`
   module _ (o : length old ≡ 64) where
-    pub asked-good : k ≤ 64 → distinct (take k new) ≡ true → AskedIds bs (record { number = 0; ids = k }) old new
+    pub asked-good : k ≤ 64 → distinct (take k new) ≡ true → AskedIds bs (Ok k) old new
     asked-good few d =
         let room : k ≤ length old = omega (arith, few, o) in
         record {
           is = sym (asked_is ∙ rw (sym (kept-distinct room) ∙ d, le-leb k 64 few));
-          count = λ z. sym ids-long;
-          output = λ z. written room;
+          count = sym ids-long;
+          output = written room;
           size = h.size ∙ o;
         }
 
-    pub asked-few : k ≤ 64 → distinct (take k new) ≡ false → AskedIds bs (record { number = 22; ids = 0 }) old new
+    pub asked-few : k ≤ 64 → distinct (take k new) ≡ false → AskedIds bs (Err no.ParameterTwice) old new
     asked-few few d =
-        no bs old new 22 (sym (asked_is ∙ rw (sym (kept-distinct (omega (arith, few, o))) ∙ d))) (λ z. omega (arith, z)) (h.size ∙ o)
+        refuses bs old new no.ParameterTwice (sym (asked_is ∙ rw (sym (kept-distinct (omega (arith, few, o))) ∙ d))) (h.size ∙ o)
 
-    pub asked-many : 64 < k → distinct (ids_in bs) ≡ true → AskedIds bs (record { number = 23; ids = 0 }) old new
-    asked-many many d = no bs old new 23 (sym (asked_is ∙ rw (d, lt-leb k 64 many))) (λ z. omega (arith, z)) (h.size ∙ o)
+    pub asked-many : 64 < k → distinct (ids_in bs) ≡ true → AskedIds bs (Err no.ListTooLong) old new
+    asked-many many d = refuses bs old new no.ListTooLong (sym (asked_is ∙ rw (d, lt-leb k 64 many))) (h.size ∙ o)
 
-    pub asked_twice : distinct (ids_in bs) ≡ false → AskedIds bs (record { number = 22; ids = 0 }) old new
-    asked_twice d = no bs old new 22 (sym (asked_is ∙ rw d)) (λ z. omega (arith, z)) (h.size ∙ o)
+    pub asked_twice : distinct (ids_in bs) ≡ false → AskedIds bs (Err no.ParameterTwice) old new
+    asked_twice d = refuses bs old new no.ParameterTwice (sym (asked_is ∙ rw d)) (h.size ∙ o)

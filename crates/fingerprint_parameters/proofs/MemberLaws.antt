@@ -1,33 +1,17 @@
 -- Numbers in a list: looking for one, and one more after others that are all new. Assumes nothing.
 use Prim.Native.Nat.{ℕ, ◌+◌, ◌≤◌, ◌<◌}
 use mathlib.Core.Path.{◌≡◌, refl, sym, ap, ◌∙◌}
-use mathlib.Core.Bool.{Bool, true, false, true≢false}
+use mathlib.Core.Bool.{Bool, true, false, ◌||◌, true≢false}
 use mathlib.Core.List.{List, [], ◌∷◌, ◌++◌}
 use native.Mathlib.Decide.{ℕ_discrete}
-use native.Mathlib.Numerals.{add-one}
 use native.Mathlib.Omega.{arith}
-use lib.ListN.{length, take, drop, get_or, length-take, drop_of_length-le}
-use lib.Seq.{drop-cons, get_or-take, length-take-le}
+use lib.ListN.{length, take, get_or}
 use lib.Dec.{eqb}
 use borrow.Author.Tests.{ne_eqb}
-use Rattle.wire.specs.Sums.{indicator, count, member, distinct}
-use Rattle.wire.proofs.SumLaws.{count-append, member-nil, member-none, member-some, distinct-once, once-distinct, indicator-le}
-use Rattle.fingerprint_order.proofs.MemberLaws.{member-first, member-later, distinct_nil, count-one, one_more}
-
--- ---- looking for a number among the first n, from place i on
-
-module _ (l : List ℕ) (n i : ℕ) (h : i < n) (k : n ≤ length l) where
-  from : drop i (take n l) ≡ get_or l i 0 ∷ drop (i + 1) (take n l)
-  from = rw (add-one i, drop-cons (take n l) i 0 (omega (arith, length-take-le n l k)), get_or-take n l i 0 h)
-
-  pub among-here : (x : ℕ) → x ≡ get_or l i 0 → member x (drop i (take n l)) ≡ true
-  among-here x e = rw from (member-first x (get_or l i 0) (drop (i + 1) (take n l)) e)
-
-  pub among_next : (x : ℕ) → (x ≡ get_or l i 0 → ⊥) → member x (drop i (take n l)) ≡ member x (drop (i + 1) (take n l))
-  among_next x e = ap (λ (r : List ℕ). member x r) from ∙ member-later x (get_or l i 0) (drop (i + 1) (take n l)) e
-
-pub among-end : (l : List ℕ) (n i x : ℕ) → n ≤ i → member x (drop i (take n l)) ≡ false
-among-end l n i x h = rw (drop_of_length-le (take n l) {i = i} (omega (arith, length-take n l))) (member-nil x)
+use Rattle.std.specs.List.{list_any}
+use Rattle.wire.specs.Sums.{indicator, count, any, member, distinct}
+use Rattle.wire.proofs.SumLaws.{count-append, member-none, member-some, distinct-once, once-distinct, indicator-le}
+use Rattle.fingerprint_order.proofs.MemberLaws.{distinct_nil, count-one, one_more}
 
 -- ---- a number after others
 
@@ -59,3 +43,17 @@ module _ (l : List ℕ) (i : ℕ) (h : i < length l) where
 
 pub new-start : (l : List ℕ) → distinct (take 0 l) ≡ true
 new-start l = distinct_nil
+
+-- ---- what the library's `contains` answers
+
+eqb-turned : (x y : ℕ) → eqb y x ≡ eqb x y
+eqb-turned x y = go (ℕ_discrete x y)
+  where
+    go : Dec (x ≡ y) → eqb y x ≡ eqb x y
+    go (yes p) = rw p refl
+    go (no q) = ne_eqb y x (λ e. q (sym e)) ∙ sym (ne_eqb x y q)
+
+pub contains-member : (x : ℕ) (l : List ℕ) → list_any (λ y. eqb y x) l ≡ member x l
+unfolding member any
+contains-member x [] = refl
+contains-member x (y ∷ l) = rw (eqb-turned x y) (ap (λ (b : Bool). eqb x y || b) (contains-member x l))

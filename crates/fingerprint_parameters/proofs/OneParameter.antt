@@ -8,23 +8,24 @@ use lib.ListN.{length, take, drop, length-drop}
 use lib.Seq.{drop-drop}
 use Rattle.varint.specs.Varint.{class_at, Found}
 use Rattle.varint.specs.declared.Varint.{Varint}
-use Rattle.varint.specs.declared.Got.TheVariants as got
+use Rattle.std.specs.Prelude.{Ok, Err}
+use Rattle.wire.specs.declared.refusals.Refusal.{Refusal}
 use Rattle.fingerprint_bodies.specs.Entries.{bind}
 use Rattle.fingerprint_bodies.specs.Forms.{varint_at, one_parameter}
 use Rattle.fingerprint_bodies.proofs.PieceLaws.{taken-there, taken-cut}
 use Rattle.fingerprint_parameters.specs.Code.{ParameterFound}
 
 module _ (bs : List ℕ) where
-  pub no-id : (k : ℕ) → Found bs (got.Refused k) → one_parameter bs ≡ none
+  pub no-id : (k : Refusal) → Found bs (Err k) → one_parameter bs ≡ none
   unfolding one_parameter varint_at bind
   no-id k f = rw (← f.is)
 
-  module _ (id : Varint) (f : Found bs (got.Value id)) where
-    pub no_length : (k : ℕ) → Found (drop id.width bs) (got.Refused k) → one_parameter bs ≡ none
+  module _ (id : Varint) (f : Found bs (Ok id)) where
+    pub no_length : (k : Refusal) → Found (drop id.width bs) (Err k) → one_parameter bs ≡ none
     unfolding one_parameter varint_at bind
     no_length k g = rw (← f.is, ← g.is)
 
-    module _ (size : Varint) (g : Found (drop id.width bs) (got.Value size)) where
+    module _ (size : Varint) (g : Found (drop id.width bs) (Ok size)) where
       pub head-within : id.width + size.width ≤ length bs
       head-within = omega (arith, f.bounds.1, g.bounds.1, length-drop id.width bs)
 

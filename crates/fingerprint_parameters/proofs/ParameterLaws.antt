@@ -24,7 +24,8 @@ use Rattle.fingerprint_bodies.specs.Forms.{varint_found, varint_at, one_paramete
 use Rattle.fingerprint_bodies.proofs.EntryLaws.{There, there-first, or-first, there-not}
 use Rattle.fingerprint_parameters.specs.Code.{ParameterFound, ParameterAs, ids_of, ids_in}
 use Rattle.fingerprint_parameters.specs.declared.Parameter as code
-use Rattle.fingerprint_parameters.specs.declared.Parameter.TheVariants as read
+use Rattle.std.specs.Prelude as std
+use Rattle.std.specs.Prelude.{Some, None}
 
 -- ---- where a whole is there, so is each of its pieces, and what follows it is a later part of the same bytes
 
@@ -145,39 +146,39 @@ pub record Next (l : List ℕ) (at id used : ℕ) : Type 0 where
   pub ids : There (transport_parameters (drop at l)) → ids_in (drop at l) ≡ id ∷ ids_in (drop (at + used) l)
 
 -- what `one_parameter` says of the part that begins at the place
-module _ (l : List ℕ) (at : ℕ) (i : at < length l) (r : code.Parameter) (p : ParameterAs r (take (length l - at) (drop at l))) where
+module _ (l : List ℕ) (at : ℕ) (i : at < length l) (r : std.Option code.Parameter) (p : ParameterAs r (take (length l - at) (drop at l))) where
   some_left : 0 < length (drop at l)
   some_left = omega (arith, length-drop at l)
 
-  none-there : r ≡ read.Cut → transport_parameters (drop at l) ≡ none
+  none-there : r ≡ None → transport_parameters (drop at l) ≡ none
   none-there e = parameters-cut (drop at l) some_left (rw (part_to_end l at, e) at p)
 
-  pub cut-there : r ≡ read.Cut → There (transport_parameters (drop at l)) → ⊥
+  pub cut-there : r ≡ None → There (transport_parameters (drop at l)) → ⊥
   cut-there e t = there-not (transport_parameters (drop at l)) t (none-there e)
 
-  pub ids-cut : r ≡ read.Cut → ids_of (drop at l) ≡ none
+  pub ids-cut : r ≡ None → ids_of (drop at l) ≡ none
   unfolding ids_of mapped
   ids-cut e = rw (none-there e)
 
-  module _ (b : Bytes l) {id used : ℕ} (e : r ≡ read.Whole id used) where
-    found : ParameterFound (drop at l) id used
+  module _ (b : Bytes l) {x : code.Parameter} (e : r ≡ Some x) where
+    found : ParameterFound (drop at l) x.id x.used
     found = rw (part_to_end l at, e) at p
 
-    next-is : transport_parameters (drop at l) ≡ first found.found (transport_parameters (drop (at + used) l))
-    next-is = rw (drop-drop used at l) at (parameters-next (drop at l) found.found used (bytes_drop at l b) some_left found.some found.is)
+    next-is : transport_parameters (drop at l) ≡ first found.found (transport_parameters (drop (at + x.used) l))
+    next-is = rw (drop-drop x.used at l) at (parameters-next (drop at l) found.found x.used (bytes_drop at l b) some_left found.some found.is)
 
-    pub next : Next l at id used
+    pub next : Next l at x.id x.used
     unfolding ids_of
     next =
         record {
           some = found.some;
           within = omega (arith, found.within, length-drop at l);
-          ids-of = rw next-is (mapped-first found.found id found.id-is (transport_parameters (drop (at + used) l)));
-          there = λ t. there-first found.found (transport_parameters (drop (at + used) l)) (rw next-is at t);
+          ids-of = rw next-is (mapped-first found.found x.id found.id-is (transport_parameters (drop (at + x.used) l)));
+          there = λ t. there-first found.found (transport_parameters (drop (at + x.used) l)) (rw next-is at t);
           ids = λ t.
               ap (λ (x : Option (List Parameter)). map id_of (or_empty x)) next-is
-              ∙ ap (λ (r : List Parameter). map id_of r) (or-first found.found (transport_parameters (drop (at + used) l)) (rw next-is at t))
-              ∙ ap (λ (n : ℕ). n ∷ ids_in (drop (at + used) l)) found.id-is;
+              ∙ ap (λ (r : List Parameter). map id_of r) (or-first found.found (transport_parameters (drop (at + x.used) l)) (rw next-is at t))
+              ∙ ap (λ (n : ℕ). n ∷ ids_in (drop (at + x.used) l)) found.id-is;
         }
 
 module _ (l : List ℕ) (at : ℕ) (h : length l ≤ at) where

@@ -11,7 +11,7 @@ use Rattle.wire.proofs.FrontLaws.{front-none, front-more}
 use Rattle.fingerprint_bodies.specs.Entries.{mapped}
 use Rattle.fingerprint_bodies.proofs.BindLaws.{none-some, same_some}
 use Rattle.fingerprint_parameters.specs.Code.{ids_of, Kept}
-use Rattle.fingerprint_parameters.specs.declared.Count.TheVariants as count
+use Rattle.std.specs.Prelude.{Some, None}
 use Rattle.fingerprint_parameters.proofs.ParameterLaws.{Next, ids-of-end}
 
 -- k parameters stand before the place `at`: these ids, of which the array has those that it has room for
@@ -71,7 +71,7 @@ module _ (body old ids : List ℕ) (at k : ℕ) (r : Reading body old ids at k) 
           let more = front-more k all old (omega (arith, counted)) (omega (arith, counted, p)) in
           rw (r.kept (omega (arith, p))) (rw (these, this, take_all (k + 1) all (omega (arith, counted))) at more)
 
-  pub reading-cut : ids_of (drop at body) ≡ none → Kept (ids_of body) count.Cut old ids
+  pub reading-cut : ids_of (drop at body) ≡ none → Kept (ids_of body) None old ids
   unfolding mapped
   reading-cut e =
       let cut : ids_of body ≡ none = r.is ∙ rw e in
@@ -81,12 +81,12 @@ module _ (body old ids : List ℕ) (at k : ℕ) (r : Reading body old ids at k) 
         output = λ l p q. absurd (none-some (sym cut ∙ p));
       }
 
-  pub reading-end : length body ≤ at → Kept (ids_of body) (count.Are k) old ids
+  pub reading-end : length body ≤ at → Kept (ids_of body) (Some k) old ids
   unfolding mapped
   reading-end h =
       let all : ids_of body ≡ some r.before = r.is ∙ rw (ids-of-end body at h, append-nil) in
       record {
-        is = rw all (ap (λ (n : ℕ). count.Are n) (sym r.long));
+        is = rw all (ap (λ (n : ℕ). Some n) (sym r.long));
         size = r.size;
         output = λ l p q. let z : r.before ≡ l = same_some r.before l (sym all ∙ p) in rw (← z) (r.kept (omega (arith, q, r.long, ap length z)));
       }

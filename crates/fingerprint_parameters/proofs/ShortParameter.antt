@@ -13,7 +13,7 @@ use Rattle.wire.proofs.ListLaws.{lt-or-le}
 use Rattle.wire.proofs.SumLaws.{and_left, and_right}
 use Rattle.varint.specs.Varint.{Found}
 use Rattle.varint.specs.declared.Varint.{Varint}
-use Rattle.varint.specs.declared.Got.TheVariants as got
+use Rattle.std.specs.Prelude.{Ok}
 use Rattle.varint.proofs.ByteLaws.{number-one}
 use Rattle.varint.proofs.Promises.{found}
 use Rattle.fingerprint_parameters.specs.Code.{ParameterAs, short_of}
@@ -23,7 +23,7 @@ use Rattle.fingerprint_parameters.proofs.OneParameter.{no_value, whole-parameter
 abbrev one_byte : ℕ → Varint
 one_byte b = record { value = b; width = 1 }
 
-found-byte : (s : List ℕ) → 1 ≤ length s → get_or s 0 0 < 64 → Found s (got.Value (one_byte (get_or s 0 0)))
+found-byte : (s : List ℕ) → 1 ≤ length s → get_or s 0 0 < 64 → Found s (Ok (one_byte (get_or s 0 0)))
 found-byte s l h = found s 0 (omega arith) (lit< tt) l (get_or s 0 0) (rw (number-one s l) (omega arith))
 
 module _ (bs : List ℕ) (l : 2 ≤ length bs) (t : (ltb (get_or bs 0 0) 64 && ltb (get_or bs 1 0) 64) ≡ true) where
@@ -33,10 +33,10 @@ module _ (bs : List ℕ) (l : 2 ≤ length bs) (t : (ltb (get_or bs 0 0) 64 && l
   second_below : get_or bs 1 0 < 64
   second_below = ltb-true (get_or bs 1 0) 64 (and_right (ltb (get_or bs 0 0) 64) (ltb (get_or bs 1 0) 64) t)
 
-  id-found : Found bs (got.Value (one_byte (get_or bs 0 0)))
+  id-found : Found bs (Ok (one_byte (get_or bs 0 0)))
   id-found = found-byte bs (omega arith) first_below
 
-  length_found : Found (drop 1 bs) (got.Value (one_byte (get_or bs 1 0)))
+  length_found : Found (drop 1 bs) (Ok (one_byte (get_or bs 1 0)))
   length_found =
       let second : get_or (drop 1 bs) 0 0 ≡ get_or bs 1 0 = get_or-drop 1 bs 0 0 in
       rw second at (found-byte (drop 1 bs) (omega (arith, length-drop 1 bs)) (rw second second_below))

@@ -7,8 +7,9 @@ ghost use Rattle.fingerprint_stops.specs.Stops.{word_size, entry_size, passed, l
 ghost use Rattle.fingerprint_stops.specs.Code.{first_ids};
 
 use fingerprint::walk::{ask_body, slot};
-use fingerprint_bodies::{Name, Share, is_whole};
-use fingerprint_parameters::{Parameter, one_parameter};
+use fingerprint_bodies::{is_whole, one_name, one_share};
+use fingerprint_parameters::one_parameter;
+use wire::Refusal;
 
 // How many bytes the entry at the front takes, by its kind's place; 0 where no entry is whole.
 fn entry_size(place: usize, rest: &[u8]) -> usize
@@ -17,18 +18,18 @@ fn entry_size(place: usize, rest: &[u8]) -> usize
     match place {
         1 => word_size(rest),
         2 => word_size(rest),
-        3 => match fingerprint_bodies::one_name(rest) {
-            Name::Whole(length) => 1 + length,
-            Name::Cut => 0,
+        3 => match one_name(rest) {
+            Some(length) => 1 + length,
+            None => 0,
         },
         4 => word_size(rest),
-        5 => match fingerprint_bodies::one_share(rest) {
-            Share::Whole(_, used) => used,
-            Share::Cut => 0,
+        5 => match one_share(rest) {
+            Some(share) => share.used,
+            None => 0,
         },
         6 => match one_parameter(rest) {
-            Parameter::Whole(_, used) => used,
-            Parameter::Cut => 0,
+            Some(parameter) => parameter.used,
+            None => 0,
         },
         _ => 0,
     }
@@ -44,15 +45,13 @@ fn word_size(rest: &[u8]) -> usize
 fn passed_over(place: usize, list: &[u8], n: usize) -> usize
     ensures { (result ≡ passed (kind_at place) n list.now) × (result ≤ length list.now) }
 {
-    let mut at: usize = 0;
-    let mut k: usize = 0;
-    while k < n {
+    let mut at = 0;
+    for _k in 0..n {
         let size = entry_size(place, &list[at..]);
         if size == 0 {
             return at;
         }
-        at = at + size;
-        k = k + 1;
+        at += size;
     }
     at
 }
@@ -110,17 +109,15 @@ fn past_count(place: usize, body: &[u8]) -> usize
 fn among_first(body: &[u8], k: usize, id: u64) -> bool
     ensures { result ≡ member id (first_ids k body.now) }
 {
-    let mut at: usize = 0;
-    let mut i: usize = 0;
-    while i < k {
-        let Parameter::Whole(other, used) = one_parameter(&body[at..]) else {
+    let mut at = 0;
+    for _i in 0..k {
+        let Some(other) = one_parameter(&body[at..]) else {
             return false;
         };
-        if id == other {
+        if id == other.id {
             return true;
         }
-        at = at + used;
-        i = i + 1;
+        at += other.used;
     }
     false
 }
@@ -129,17 +126,18 @@ fn among_first(body: &[u8], k: usize, id: u64) -> bool
 fn repeated_at(body: &[u8]) -> usize
     ensures { (result ≡ repeated_at body.now) × (result ≤ length body.now) }
 {
-    let mut at: usize = 0;
-    let mut k: usize = 0;
+    let mut at = 0;
+    let mut k = 0;
+    // A place and not an item: each step takes as many bytes as the entry has.
     while at < body.len() {
-        let Parameter::Whole(id, used) = one_parameter(&body[at..]) else {
+        let Some(parameter) = one_parameter(&body[at..]) else {
             return at;
         };
-        if among_first(body, k, id) {
+        if among_first(body, k, parameter.id) {
             return at;
         }
-        at = at + used;
-        k = k + 1;
+        at += parameter.used;
+        k += 1;
     }
     at
 }
@@ -149,17 +147,17 @@ pub fn in_body(t: u16, body: &[u8]) -> usize
     requires { length body.now ≤ 16384 }
     ensures { result ≡ body_place (kind t) body.now }
 {
-    if body.len() == 0 {
+    if body.is_empty() {
         return 0;
     }
     let place = slot(t);
     let mut ids = [0u64; 64];
-    let asked = ask_body(place, body, &mut ids);
-    let number = asked.number;
-    match number {
-        0 => 0,
-        21 => 4 + broken_at(place, body),
-        22 => 4 + repeated_at(body),
+    let Err(refusal) = ask_body(place, body, &mut ids) else {
+        return 0;
+    };
+    match refusal {
+        Refusal::ExtensionMalformed => 4 + broken_at(place, body),
+        Refusal::ParameterTwice => 4 + repeated_at(body),
         _ => 4 + past_count(place, body),
     }
 }

@@ -1,17 +1,18 @@
 // The place of a field before the extensions: 16 to 19.
 ghost use Rattle.std.specs.Prelude.{◌≤◌, ◌≡◌, length, drop};
+ghost use Rattle.wire.specs.Refusals.{question};
 ghost use Rattle.fingerprint_stops.specs.Stops.{compression_stop, suites_stop, session_stop, field_stop, head_place};
 
-use wire::{be16, wide};
+use wire::{Refusal, be16};
 
-// 16 at the first byte too many, 17 at the first byte, 18 at the length, 19 at the field.
-pub fn head_place(hello: &[u8], number: u64) -> usize
-    ensures { result ≡ head_place hello.now number }
+// At the first byte too many, at the first byte, at the length, or at the field.
+pub fn head_place(hello: &[u8], refusal: Refusal) -> usize
+    ensures { result ≡ head_place hello.now (question refusal) }
 {
-    match number {
-        16 => 16384,
-        17 => 0,
-        18 => 1,
+    match refusal {
+        Refusal::HelloTooLong => 16384,
+        Refusal::NoClientHello => 0,
+        Refusal::WrongLength => 1,
         _ => field_place(hello),
     }
 }
@@ -38,7 +39,7 @@ fn session_place(hello: &[u8]) -> usize
     if n < 39 {
         return 38;
     }
-    let length = wide(hello[38]) as usize;
+    let length = usize::from(hello[38]);
     if 32 < length {
         return 38;
     }
@@ -56,7 +57,7 @@ fn suites_place(hello: &[u8], at: usize) -> usize
     if n - at < 2 {
         return at;
     }
-    let length = be16(&hello[at..]) as usize;
+    let length = usize::from(be16(&hello[at..]));
     if length < 2 {
         return at;
     }
@@ -77,7 +78,7 @@ fn compression_place(hello: &[u8], at: usize) -> usize
     if n - at < 1 {
         return at;
     }
-    let length = wide(hello[at]) as usize;
+    let length = usize::from(hello[at]);
     if length == 0 {
         return at;
     }

@@ -1,14 +1,14 @@
 -- The frame writer: how long frames are, what is left to be cut at a turn of its loops, and its answers. Assumes nothing.
 use Prim.Native.Nat.{ℕ, zero, suc, zero-le, ◌+◌, ◌-◌, ◌*◌, ◌≤◌, ◌<◌, min}
 use mathlib.Core.Path.{◌≡◌, refl, sym, ap, ◌∙◌}
-use mathlib.Core.Logic.{⊎_elim}
+use mathlib.Core.Logic.{◌⊎◌, inl, inr, ⊎_elim}
 use mathlib.Core.List.{List, [], ◌∷◌, ◌++◌, append-nil}
 use native.Mathlib.Omega.{arith}
 use lib.ListN.{length, take, drop, set, length-append, length-take, length-drop}
-use lib.Seq.{take_all, drop-drop}
+use lib.Seq.{take_all, drop-drop, take_at, drop_at}
 use lib.Dec.{leb, lit≤}
 use borrow.Author.Tests.{le-leb, lt-leb}
-use Rattle.wire.specs.Answer.{result, refused, told, ask, IsNumber}
+use Rattle.wire.specs.Answer.{result, refused, told, ask}
 use Rattle.wire.specs.Front.{Put}
 use Rattle.wire.proofs.ListLaws.{lt-or-le}
 use Rattle.wire.proofs.FrontLaws.{piece-drop, piece-length}
@@ -17,7 +17,10 @@ use Rattle.varint.proofs.RoundTrip.{length-shortest}
 use Rattle.frames.specs.Frame.{encode, encode_all}
 use Rattle.frames.specs.Join.{limit}
 use Rattle.frames.specs.Cut.{short_frame, cut_from, cut, frames_of, cut_of, after_cut, Cuts}
-use Rattle.frames.specs.declared.cutting.Cut.TheVariants as cut-answer
+use Rattle.std.specs.Prelude.{Ok, Err}
+use Rattle.wire.specs.declared.refusals.Refusal.{Refusal}
+use Rattle.wire.specs.declared.refusals.Refusal.TheVariants as no
+use Rattle.wire.specs.Refusals.{question}
 use Rattle.wire.proofs.Writing.{lent_from, back_from, Writing, stored, restated, next-room, writes}
 
 -- ---- varints
@@ -192,6 +195,24 @@ module _ (c : ℕ) (hello : List ℕ) (at e : ℕ) (d : e ≡ min (at + c) (leng
             rest = r ∙ cut-next f c at (drop at hello) (omega (arith, length-drop at hello)) ∙ rw (data-part l.within, next-left f);
           }
 
+-- the next piece, as the iterator over the hello's pieces hands it out, and what is left after it
+pub record Next (c : ℕ) (hello : List ℕ) (at n : ℕ) (piece later : List ℕ) : Type 0 where
+  pub turn : Turn c hello at (at + length piece) n
+  pub is : piece ≡ take (at + length piece - at) (drop at hello)
+  pub follows : later ≡ drop (at + length piece) hello
+
+pub next-piece : (c : ℕ) (hello : List ℕ) (at n size : ℕ) (rest piece later : List ℕ) → Left c hello at n → 1 ≤ c → size ≡ c → rest ≡ drop at hello
+    → rest ≡ piece ++ later → length piece ≡ min size (length rest) → 0 < length rest → Next c hello at n piece later
+next-piece c hello at n size rest piece later l k z r s w some =
+    let long : length rest ≡ length hello - at = ap length r ∙ length-drop at hello in
+    let width : at + length piece - at ≡ length piece = omega arith in
+    let whole : piece ++ later ≡ drop at hello = sym s ∙ r in
+    record {
+      turn = turn c hello at (at + length piece) (omega (arith, w, long, l.within)) l (omega (arith, some, long)) k;
+      is = rw (width, ← whole) (sym (take_at piece later (length piece) refl));
+      follows = rw (← drop-drop, ← whole) (sym (drop_at piece later (length piece) refl));
+    }
+
 module _ {c : ℕ} {hello : List ℕ} {at e n : ℕ} (t : Turn c hello at e n) where
   pub goes_on : Left c hello e (n + length (part_frame hello at e))
   goes_on =
@@ -222,36 +243,41 @@ module _ {c : ℕ} {hello : List ℕ} {at e n : ℕ} (t : Turn c hello at e n) w
 -- ---- the answers, by what the code has tested
 
 module _ (c : ℕ) (hello old : List ℕ) where
-  refuses : (n : ℕ) → cut_of c hello (length old) ≡ refused n → IsNumber n → Cuts c hello old (cut-answer.Refused n) old
+  refuses : (k : Refusal) → cut_of c hello (length old) ≡ refused (question k) → Cuts c hello old (Err k) old
   unfolding after_cut
-  refuses n e b = record { is = sym e; tells = ap (told 0) (sym e); output = rw e; bounds = b }
+  refuses k e = record { is = sym e; tells = ap (told 0) (sym e); output = rw e; bounds = tt }
 
-  pub refuses-small : c < 1 → Cuts c hello old (cut-answer.Refused 24) old
+  refuses-small : c < 1 → Cuts c hello old (Err no.FrameSize) old
   unfolding cut_of
-  refuses-small h = refuses 24 (rw (lt-leb 1 c h)) (lit≤ tt, lit≤ tt)
+  refuses-small h = refuses no.FrameSize (rw (lt-leb 1 c h))
 
   module _ (k : 1 ≤ c) where
-    pub refuses-large : limit < c → Cuts c hello old (cut-answer.Refused 24) old
+    refuses-large : limit < c → Cuts c hello old (Err no.FrameSize) old
     unfolding cut_of
-    refuses-large h = refuses 24 (rw (le-leb 1 c k, lt-leb c limit h)) (lit≤ tt, lit≤ tt)
+    refuses-large h = refuses no.FrameSize (rw (le-leb 1 c k, lt-leb c limit h))
 
     module _ (m : c ≤ limit) where
-      pub refuses-hello : limit < length hello → Cuts c hello old (cut-answer.Refused 25) old
+      pub refuses-hello : limit < length hello → Cuts c hello old (Err no.HelloTooLongToCut) old
       unfolding cut_of
-      refuses-hello h = refuses 25 (rw (le-leb 1 c k, le-leb c limit m, lt-leb (length hello) limit h)) (lit≤ tt, lit≤ tt)
+      refuses-hello h = refuses no.HelloTooLongToCut (rw (le-leb 1 c k, le-leb c limit m, lt-leb (length hello) limit h))
 
       module _ (s : length hello ≤ limit) where
         asked : cut_of c hello (length old) ≡ ask (leb (length (frames_of c hello)) (length old)) 26 (result (length (frames_of c hello)))
         unfolding cut_of
         asked = rw (le-leb 1 c k, le-leb c limit m, le-leb (length hello) limit s)
 
-        pub refuses-room : length old < length (frames_of c hello) → Cuts c hello old (cut-answer.Refused 26) old
-        refuses-room h = refuses 26 (asked ∙ rw (lt-leb (length (frames_of c hello)) (length old) h)) (lit≤ tt, lit≤ tt)
+        pub refuses-room : length old < length (frames_of c hello) → Cuts c hello old (Err no.NoRoomForFrames) old
+        refuses-room h = refuses no.NoRoomForFrames (asked ∙ rw (lt-leb (length (frames_of c hello)) (length old) h))
 
         pub cuts : (n : ℕ) (new : List ℕ) → length (frames_of c hello) ≤ length old → Put (frames_of c hello) n old new
-            → Cuts c hello old (cut-answer.Length n) new
+            → Cuts c hello old (Ok n) new
         unfolding after_cut
         cuts n new h p =
             let yes : cut_of c hello (length old) ≡ result (length (frames_of c hello)) = asked ∙ rw (le-leb (length (frames_of c hello)) (length old) h) in
             let e : result n ≡ cut_of c hello (length old) = ap result p.count ∙ sym yes in
             record { is = e; tells = ap (told 0) e; output = p.output ∙ rw yes; bounds = rw p.count h }
+
+  -- either bound of c
+  pub refuses-width : (c < 1) ⊎ ((1 ≤ c) × (limit < c)) → Cuts c hello old (Err no.FrameSize) old
+  refuses-width (inl h) = refuses-small h
+  refuses-width (inr (k, h)) = refuses-large k h

@@ -10,7 +10,8 @@ use Rattle.wire.specs.Numbers.{Bytes}
 use Rattle.wire.proofs.NumberLaws.{bytes_drop}
 use Rattle.wire.proofs.AnswerLaws.{and_then-agree, and_then-result}
 use Rattle.frames.specs.Frame.{Piece, Frame, padding, ping, crypto, encode, encode_all, AllWhole, pieces}
-use Rattle.frames.specs.Read.{Shape, read_frame, extent}
+use Rattle.frames.specs.Read.{read_frame, extent}
+use Rattle.frames.specs.declared.reading.Frame.{Frame as Shape}
 use Rattle.frames.specs.Join.{place, place_frame, place_all}
 use Rattle.frames.proofs.ReadBack.{place_value, read-encode, extent-bounds, Encodes, encode-read}
 use Rattle.frames.proofs.RunLaws.{place_none, place_read}

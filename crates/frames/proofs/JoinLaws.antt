@@ -7,7 +7,8 @@ use mathlib.Core.Option.{none, some}
 use native.Mathlib.Omega.{arith}
 use lib.ListN.{length, take, drop, replicate}
 use lib.Dec.{lit≤}
-use Rattle.wire.specs.Answer.{result, refused, IsNumber}
+use Rattle.wire.specs.Answer.{result, refused}
+use Rattle.wire.specs.Refusals.{question}
 use Rattle.wire.proofs.AnswerLaws.{apart, same-result}
 use Rattle.wire.specs.Stops.{stopped}
 use Rattle.frames.specs.Frame.{Piece}
@@ -15,8 +16,9 @@ use Rattle.frames.specs.Stream.{gapless, stream}
 use Rattle.frames.specs.Join.{limit, close, join}
 use Rattle.frames.specs.Stops.{stop_at, join_stops}
 use Rattle.frames.specs.Buffers.{Carries, marked, Stepping, Joining}
-use Rattle.frames.specs.declared.joining.Walked.TheVariants as walked
-use Rattle.frames.specs.declared.joining.Step.TheVariants as step
+use Rattle.std.specs.Prelude.{Ok, Err}
+use Rattle.wire.specs.declared.refusals.Refusal.{Refusal}
+use Rattle.wire.specs.declared.refusals.Refusal.TheVariants as no
 use Rattle.frames.proofs.EachLaws.{length-values}
 use Rattle.frames.proofs.RunLaws.{Running}
 use Rattle.frames.proofs.RunLaws as run
@@ -42,14 +44,15 @@ starts frames out marks o m =
       wide = refl;
     }
 
-refuses : (frames out marks : List ℕ) (k at : ℕ) (out' marks' : List ℕ) → join frames ≡ refused k → join_stops frames ≡ some (stopped k at) → IsNumber k
-    → at ≤ length frames → Joining frames out marks (walked.Refused k at) out' marks'
-refuses frames out marks k at out' marks' j p b h =
-    record { is = rw j; stop = sym p; output = λ s q. absurd (apart (sym j ∙ q)); ones = λ s q. absurd (apart (sym j ∙ q)); bounds = (b, h) }
+refuses : (frames out marks : List ℕ) (k : Refusal) (at : ℕ) (out' marks' : List ℕ) → join frames ≡ refused (question k)
+    → join_stops frames ≡ some (stopped (question k) at) → at ≤ length frames
+    → Joining frames out marks (Err (record { refusal = k; place = at })) out' marks'
+refuses frames out marks k at out' marks' j p h =
+    record { is = rw j; stop = sym p; output = λ s q. absurd (apart (sym j ∙ q)); ones = λ s q. absurd (apart (sym j ∙ q)); bounds = h }
 
 module _ {frames out₀ marks₀ out marks : List ℕ} {at e : ℕ} (i : Laying frames out₀ marks₀ out marks at e) where
   module _ {out' marks' : List ℕ} (h : at < length frames) where
-    pub goes_on : {used l : ℕ} → Stepping (drop at frames) out marks e (step.Next used l) out' marks' → length out' ≡ length out → length marks' ≡ length marks
+    pub goes_on : {used l : ℕ} → Stepping (drop at frames) out marks e (Ok (record { used = used; end = l })) out' marks' → length out' ≡ length out → length marks' ≡ length marks
         → Laying frames out₀ marks₀ out' marks' (at + used) l
     goes_on s a b =
         let w = s.is i.placed i.carries in
@@ -62,10 +65,10 @@ module _ {frames out₀ marks₀ out marks : List ℕ} {at e : ℕ} (i : Laying 
           wide = b ∙ i.wide;
         }
 
-    pub stops : {k : ℕ} → Stepping (drop at frames) out marks e (step.Refused k) out' marks' → Joining frames out₀ marks₀ (walked.Refused k at) out' marks'
+    pub stops : {k : Refusal} → Stepping (drop at frames) out marks e (Err k) out' marks' → Joining frames out₀ marks₀ (Err (record { refusal = k; place = at })) out' marks'
     stops {k} s =
-        let r = run.stops frames at i.placed i.running k h (s.is i.placed i.carries) in
-        refuses frames out₀ marks₀ k at out' marks' r.0 r.1 s.bounds (omega arith)
+        let r = run.stops frames at i.placed i.running (question k) h (s.is i.placed i.carries) in
+        refuses frames out₀ marks₀ k at out' marks' r.0 r.1 (omega arith)
 
   module _ (h : length frames ≤ at) (ho : limit ≤ length out₀) (hm : limit ≤ length marks₀) where
     closes : join frames ≡ close i.placed
@@ -82,7 +85,7 @@ module _ {frames out₀ marks₀ out marks : List ℕ} {at e : ℕ} (i : Laying 
         let z : e - 0 ≡ e = omega arith in
         rw z (marked-as i.placed out marks e i.carries below)
 
-    pub ends-whole : marked (take (e - 0) (drop 0 marks)) ≡ true → Joining frames out₀ marks₀ (walked.End e) out marks
+    pub ends-whole : marked (take (e - 0) (drop 0 marks)) ≡ true → Joining frames out₀ marks₀ (Ok e) out marks
     unfolding close stream
     ends-whole m =
         let g : gapless i.placed ≡ true = sym marked-below ∙ m in
@@ -97,9 +100,9 @@ module _ {frames out₀ marks₀ out marks : List ℕ} {at e : ℕ} (i : Laying 
           bounds = i.ends;
         }
 
-    pub ends-gap : marked (take (e - 0) (drop 0 marks)) ≡ false → Joining frames out₀ marks₀ (walked.Refused 15 (length frames)) out marks
+    pub ends-gap : marked (take (e - 0) (drop 0 marks)) ≡ false → Joining frames out₀ marks₀ (Err (record { refusal = no.StreamGap; place = length frames })) out marks
     unfolding close
     ends-gap m =
         let g = sym marked-below ∙ m in
         let j : join frames ≡ refused 15 = closes ∙ rw g in
-        refuses frames out₀ marks₀ 15 (length frames) out marks j (stops-last ∙ rw j) (lit≤ tt, lit≤ tt) (omega arith)
+        refuses frames out₀ marks₀ no.StreamGap (length frames) out marks j (stops-last ∙ rw j) (omega arith)

@@ -17,8 +17,9 @@ use Rattle.varint.specs.Varint.{width, form, class_at, read_of, Holds}
 use Rattle.varint.specs.declared.Varint.{Varint}
 use Rattle.varint.proofs.RoundTrip.{length-form, form-read, Formed, read-formed}
 use Rattle.frames.specs.Frame.{Piece, Frame, padding, ping, crypto, encode, Whole}
-use Rattle.frames.specs.Read.{Shape, read_crypto, read_frame, extent, piece_in}
-use Rattle.frames.specs.Read as shape
+use Rattle.frames.specs.Read.{read_crypto, read_frame, extent, piece_in}
+use Rattle.frames.specs.declared.reading.Frame.{Frame as Shape}
+use Rattle.frames.specs.declared.reading.Frame.TheVariants as shape
 use Rattle.frames.specs.Join.{place, place_frame}
 use Rattle.frames.specs.declared.reading.CryptoFrame.{CryptoFrame}
 
@@ -84,7 +85,7 @@ module _ (o l at : ℕ) (bytes rest : List ℕ) (ho : Holds o at) (hl : Holds l 
   unfolding read_frame encode
   crypto-read =
       record {
-        shape = shape.crypto laid;
+        shape = shape.Crypto laid;
         read = rw read-crypto;
         taken = omega (arith, length-append (form o at) (form l n ++ bytes), length-append (form l n) bytes, length-form o at, length-form l n);
         places = λ placed. ap (λ (p : Piece). place p placed) piece-read;
@@ -92,8 +93,8 @@ module _ (o l at : ℕ) (bytes rest : List ℕ) (ho : Holds o at) (hl : Holds l 
 
 pub read-encode : (f : Frame) (rest : List ℕ) → Whole f → ReadAs (encode f ++ rest) f
 unfolding read_frame encode
-read-encode padding rest h = record { shape = shape.padding; read = refl; taken = refl; places = λ placed. refl }
-read-encode ping rest h = record { shape = shape.ping; read = refl; taken = refl; places = λ placed. refl }
+read-encode padding rest h = record { shape = shape.Padding; read = refl; taken = refl; places = λ placed. refl }
+read-encode ping rest h = record { shape = shape.Ping; read = refl; taken = refl; places = λ placed. refl }
 read-encode (crypto o l p) rest h = rw (append_assoc, append_assoc) (crypto-read o l p.offset p.bytes rest h.0 h.1)
 
 -- ---- back
@@ -125,9 +126,9 @@ crypto-back bs c e =
 
 -- the type byte that a shape was read by, and what else
 abbrev Lies : List ℕ → Shape → Type 0
-Lies bs shape.padding = bs ≡ 0 ∷ drop 1 bs
-Lies bs shape.ping = bs ≡ 1 ∷ drop 1 bs
-Lies bs (shape.crypto c) = (bs ≡ 6 ∷ drop 1 bs) × CryptoRead bs c
+Lies bs shape.Padding = bs ≡ 0 ∷ drop 1 bs
+Lies bs shape.Ping = bs ≡ 1 ∷ drop 1 bs
+Lies bs (shape.Crypto c) = (bs ≡ 6 ∷ drop 1 bs) × CryptoRead bs c
 
 lies : (bs : List ℕ) (s : Shape) → read_frame bs ≡ result s → Lies bs s
 unfolding read_frame
@@ -138,20 +139,20 @@ lies (t ∷ rest) s e = by-type (eqb t 0) (eqb t 1) (eqb t 6) (eqb-true t 0) (eq
     to x e l = subst (λ (y : Shape). Lies (t ∷ rest) y) (same-result x s e) l
 
     by-type : (a b c : Bool) → (a ≡ true → t ≡ 0) → (b ≡ true → t ≡ 1) → (c ≡ true → t ≡ 6)
-        → cond a (result shape.padding) (cond b (result shape.ping) (cond c (and_then (read_crypto (t ∷ rest)) (λ c. result (shape.crypto c))) (refused 11))) ≡ result s
+        → cond a (result shape.Padding) (cond b (result shape.Ping) (cond c (and_then (read_crypto (t ∷ rest)) (λ c. result (shape.Crypto c))) (refused 11))) ≡ result s
         → Lies (t ∷ rest) s
-    by-type true b c p q r e = to shape.padding e (ap (λ (k : ℕ). k ∷ rest) (p refl))
-    by-type false true c p q r e = to shape.ping e (ap (λ (k : ℕ). k ∷ rest) (q refl))
+    by-type true b c p q r e = to shape.Padding e (ap (λ (k : ℕ). k ∷ rest) (p refl))
+    by-type false true c p q r e = to shape.Ping e (ap (λ (k : ℕ). k ∷ rest) (q refl))
     by-type false false true p q r e =
-        let x = and_then-result (read_crypto (t ∷ rest)) (λ c. result (shape.crypto c)) s e in
-        to (shape.crypto x.value) x.after (ap (λ (k : ℕ). k ∷ rest) (r refl), crypto-back (t ∷ rest) x.value x.is)
+        let x = and_then-result (read_crypto (t ∷ rest)) (λ c. result (shape.Crypto c)) s e in
+        to (shape.Crypto x.value) x.after (ap (λ (k : ℕ). k ∷ rest) (r refl), crypto-back (t ∷ rest) x.value x.is)
     by-type false false false p q r e = absurd (apart e)
 
 -- a frame takes a byte at least, and no more than there are
 extents : (bs : List ℕ) (s : Shape) → Lies bs s → (1 ≤ extent s) × (extent s ≤ length bs)
-extents bs shape.padding h = (omega arith, omega (arith, ap length h))
-extents bs shape.ping h = (omega arith, omega (arith, ap length h))
-extents bs (shape.crypto c) h =
+extents bs shape.Padding h = (omega arith, omega (arith, ap length h))
+extents bs shape.Ping h = (omega arith, omega (arith, ap length h))
+extents bs (shape.Crypto c) h =
     let e = ap (λ (x : CryptoFrame). x.end) h.1.is in
     (omega (arith, e), omega (arith, e, h.1.fits))
 
@@ -200,7 +201,7 @@ module _ (bs : List ℕ) (b : Bytes bs) (x y : Varint) (t : bs ≡ 6 ∷ drop 1 
       let e : found.start + (found.end - found.start) ≡ found.end = omega arith in
       cut found.start (found.end - found.start) bs ∙ rw e
 
-  crypto-encodes : Encodes bs (shape.crypto found)
+  crypto-encodes : Encodes bs (shape.Crypto found)
   unfolding encode
   crypto-encodes =
       let piece = (piece_in bs found).bytes in
@@ -216,11 +217,11 @@ module _ (bs : List ℕ) (b : Bytes bs) (x y : Varint) (t : bs ≡ 6 ∷ drop 1 
 
 encodes : (bs : List ℕ) (s : Shape) → Bytes bs → Lies bs s → Encodes bs s
 unfolding encode
-encodes bs shape.padding b h = record { frame = padding; whole = tt; bytes = h; places = λ placed. refl }
-encodes bs shape.ping b h = record { frame = ping; whole = tt; bytes = h; places = λ placed. refl }
-encodes bs (shape.crypto c) b h =
+encodes bs shape.Padding b h = record { frame = padding; whole = tt; bytes = h; places = λ placed. refl }
+encodes bs shape.Ping b h = record { frame = ping; whole = tt; bytes = h; places = λ placed. refl }
+encodes bs (shape.Crypto c) b h =
     let r = h.1 in
-    subst (λ (c : CryptoFrame). Encodes bs (shape.crypto c)) (sym r.is)
+    subst (λ (c : CryptoFrame). Encodes bs (shape.Crypto c)) (sym r.is)
     (crypto-encodes bs b r.offset r.count h.0 r.first r.second r.fits)
 
 pub encode-read : (bs : List ℕ) (s : Shape) → Bytes bs → read_frame bs ≡ result s → Encodes bs s

@@ -1,21 +1,25 @@
 -- What `join_onto` and its two readings promise, by what its code has tested and what `join_all` promises. Assumes nothing.
 use Prim.Native.Nat.{ℕ, ◌≤◌, ◌<◌, ◌-◌}
-use mathlib.Core.Path.{◌≡◌, refl, sym, ap}
-use mathlib.Core.Bool.{true, false}
+use mathlib.Core.Path.{◌≡◌, refl, sym, ap, ◌∙◌}
+use mathlib.Core.Bool.{true, false, false≢true}
 use mathlib.Core.List.{List}
 use native.Mathlib.Omega.{arith}
 use lib.ListN.{length, replicate}
-use lib.Dec.{leb, lit≤}
+use lib.Dec.{leb}
 use borrow.Author.Tests.{le-leb, lt-leb, leb-true}
 use Rattle.wire.specs.Answer.{Answer, result, refused, told}
-use Rattle.wire.proofs.AnswerLaws.{apart}
+use Rattle.wire.proofs.AnswerLaws.{apart, same-ok}
 use Rattle.wire.proofs.SumLaws.{and_left, and_right}
-use Rattle.wire.specs.declared.Stop.TheVariants as stop
+use Rattle.std.specs.Prelude.{Result, Ok, Err}
+use Rattle.std.specs.Prelude as std
+use Rattle.std.specs.Result.{is_err, result_err, MatchResult, IsErrAnd}
+use Rattle.wire.specs.declared.Stop.{Stop}
+use Rattle.wire.specs.declared.refusals.Refusal.{Refusal}
+use Rattle.wire.specs.declared.refusals.Refusal.TheVariants as no
+use Rattle.wire.specs.Refusals.{question, answer_of}
 use Rattle.frames.specs.Join.{limit, join, roomy, join_of, padded, out_after, marks_after, Joins}
 use Rattle.frames.specs.Stops.{joiner_stops, StopsAt}
 use Rattle.frames.specs.Buffers.{Joining, Walks}
-use Rattle.frames.specs.declared.joining.Joined.TheVariants as joined
-use Rattle.frames.specs.declared.joining.Walked.TheVariants as walked
 
 -- ---- question 10
 
@@ -38,17 +42,17 @@ module _ (out marks : List ℕ) where
 -- ---- the answer
 
 module _ {frames out marks : List ℕ} where
-  pub no_room : roomy out marks ≡ false → Walks frames out marks (walked.Refused 10 0) out marks
+  pub no_room : roomy out marks ≡ false → Walks frames out marks (Err (record { refusal = no.BuffersTooShort; place = 0 })) out marks
   unfolding join_of joiner_stops out_after marks_after
-  no_room r = record { is = rw r; stop = rw r; output = rw r; marked = rw r; bounds = ((lit≤ tt, lit≤ tt), omega arith) }
+  no_room r = record { is = rw r; stop = rw r; output = rw r; marked = rw r; bounds = omega arith }
 
   module _ (yes : roomy out marks ≡ true) where
-    pub joined-whole : {e : ℕ} {out₁ marks₁ out' marks' : List ℕ} → length out₁ ≡ length out → length marks₁ ≡ length marks
-        → Joining frames out₁ marks₁ (walked.End e) out' marks' → Walks frames out marks (walked.End e) out' marks'
+    joined-whole : {e : ℕ} {out₁ marks₁ out' marks' : List ℕ} → length out₁ ≡ length out → length marks₁ ≡ length marks
+        → Joining frames out₁ marks₁ (Ok e) out' marks' → Walks frames out marks (Ok e) out' marks'
     unfolding join_of joiner_stops out_after marks_after
     joined-whole {e} {out' = out'} {marks' = marks'} a b j = go (join frames) refl
       where
-        go : (r : Answer (List ℕ)) → join frames ≡ r → Walks frames out marks (walked.End e) out' marks'
+        go : (r : Answer (List ℕ)) → join frames ≡ r → Walks frames out marks (Ok e) out' marks'
         go (result s) q =
             record {
               is = rw yes j.is;
@@ -59,14 +63,14 @@ module _ {frames out marks : List ℕ} where
             }
         go (refused n) q = absurd (apart (sym (rw q at j.is)))
 
-    pub joined-none : {n at : ℕ} {out₁ marks₁ out₂ marks₂ out' marks' : List ℕ} → Joining frames out₁ marks₁ (walked.Refused n at) out₂ marks₂
+    joined-none : {s : Stop} {out₁ marks₁ out₂ marks₂ out' marks' : List ℕ} → Joining frames out₁ marks₁ (Err s) out₂ marks₂
         → length out₂ ≡ length out → length marks₂ ≡ length marks → out' ≡ replicate (length out₂) 0 → marks' ≡ replicate (length marks₂) 0
-        → Walks frames out marks (walked.Refused n at) out' marks'
+        → Walks frames out marks (Err s) out' marks'
     unfolding join_of joiner_stops out_after marks_after padded
-    joined-none {n} {at} {out' = out'} {marks' = marks'} j a b o m = go (join frames) refl
+    joined-none {s} {out' = out'} {marks' = marks'} j a b o m = go (join frames) refl
       where
-        go : (r : Answer (List ℕ)) → join frames ≡ r → Walks frames out marks (walked.Refused n at) out' marks'
-        go (result s) q = absurd (apart (rw q at j.is))
+        go : (r : Answer (List ℕ)) → join frames ≡ r → Walks frames out marks (Err s) out' marks'
+        go (result l) q = absurd (apart (rw q at j.is))
         go (refused k) q =
             let zo : length out - 0 ≡ length out = omega arith in
             let zm : length marks - 0 ≡ length marks = omega arith in
@@ -78,17 +82,32 @@ module _ {frames out marks : List ℕ} where
               bounds = j.bounds;
             }
 
+    -- after the test of what was walked
+    pub walked-ok : (r : Result ℕ Stop) {out₁ marks₁ out' marks' : List ℕ} → false ≡ is_err r → length out₁ ≡ length out → length marks₁ ≡ length marks
+        → Joining frames out₁ marks₁ r out' marks' → Walks frames out marks r out' marks'
+    walked-ok (Ok e) t a b j = joined-whole a b j
+    walked-ok (Err s) t a b j = absurd (false≢true t)
+
+    pub walked-err : (r : Result ℕ Stop) {out₁ marks₁ out₂ marks₂ out' marks' : List ℕ} → true ≡ is_err r → Joining frames out₁ marks₁ r out₂ marks₂
+        → length out₂ ≡ length out → length marks₂ ≡ length marks → out' ≡ replicate (length out₂) 0 → marks' ≡ replicate (length marks₂) 0
+        → Walks frames out marks r out' marks'
+    walked-err (Ok e) t j a b o m = absurd (false≢true (sym t))
+    walked-err (Err s) t j a b o m = joined-none j a b o m
+
 -- ---- the two readings; what a joiner's answer tells is what it says in numbers, zeros at a refusal
 
 module _ {frames out marks out' marks' : List ℕ} where
-  pub joins-end : {e : ℕ} → Walks frames out marks (walked.End e) out' marks' → Joins frames out marks (joined.End e) out' marks'
-  joins-end w = record { is = w.is; tells = ap (told 0) w.is; output = w.output; marked = w.marked; bounds = w.bounds }
+  pub joins : (r : Result ℕ Stop) (q : Result ℕ Refusal) → Walks frames out marks r out' marks'
+      → MatchResult r (λ e. q ≡ Ok e) (λ s. IsErrAnd q (λ k. k ≡ s.refusal)) → Joins frames out marks q out' marks'
+  joins (Ok e) (Ok n) w m =
+      let same : e ≡ n = same-ok (sym m) in
+      record { is = ap result (sym same) ∙ w.is; tells = ap (told 0) (ap result (sym same) ∙ w.is); output = w.output; marked = w.marked; bounds = rw same at w.bounds }
+  joins (Ok e) (Err k) w m = absurd (apart (ap answer_of m))
+  joins (Err s) (Ok n) w m = absurd m
+  joins (Err s) (Err k) w m =
+      let e = ap (λ (x : Refusal). refused (question x)) m ∙ w.is in
+      record { is = e; tells = ap (told 0) e; output = w.output; marked = w.marked; bounds = tt }
 
-  pub joins-refused : {n at : ℕ} → Walks frames out marks (walked.Refused n at) out' marks' → Joins frames out marks (joined.Refused n) out' marks'
-  joins-refused w = record { is = w.is; tells = ap (told 0) w.is; output = w.output; marked = w.marked; bounds = w.bounds.0 }
-
-  pub stops_nowhere : {e : ℕ} → Walks frames out marks (walked.End e) out' marks' → StopsAt frames out marks stop.Nowhere out' marks'
-  stops_nowhere w = record { is = w.stop; output = w.output; marked = w.marked; bounds = tt }
-
-  pub stops_at : {n at : ℕ} → Walks frames out marks (walked.Refused n at) out' marks' → StopsAt frames out marks (stop.At n at) out' marks'
-  stops_at w = record { is = w.stop; output = w.output; marked = w.marked; bounds = w.bounds }
+  pub stops : (r : Result ℕ Stop) (s : std.Option Stop) → Walks frames out marks r out' marks' → s ≡ result_err r → StopsAt frames out marks s out' marks'
+  stops (Ok e) s w m = rw m (record { is = w.stop; output = w.output; marked = w.marked; bounds = tt })
+  stops (Err k) s w m = rw m (record { is = w.stop; output = w.output; marked = w.marked; bounds = w.bounds })

@@ -10,7 +10,8 @@ use Rattle.wire.specs.Answer.{result, refused, and_then}
 use Rattle.wire.proofs.AnswerLaws.{apart, and_then-agree}
 use Rattle.wire.specs.Stops.{stopped}
 use Rattle.frames.specs.Frame.{Piece}
-use Rattle.frames.specs.Read.{Shape, read_frame, extent}
+use Rattle.frames.specs.Read.{read_frame, extent}
+use Rattle.frames.specs.declared.reading.Frame.{Frame}
 use Rattle.frames.specs.Join.{place_frame, place_all, close, join}
 use Rattle.frames.specs.Stops.{stop_at, place_stops, join_stops}
 use Rattle.frames.specs.Buffers.{Refuses, unread, unlaid}
@@ -27,7 +28,7 @@ place_none (suc n) [] placed h = refl
 place_none (suc n) (b ∷ bs) placed h = absurd (omega arith)
 
 -- a frame that was read; where there is no byte, there is none
-pub place_read : (n : ℕ) (bs : List ℕ) (placed : List Piece) (s : Shape) → read_frame bs ≡ result s
+pub place_read : (n : ℕ) (bs : List ℕ) (placed : List Piece) (s : Frame) → read_frame bs ≡ result s
     → place_all (suc n) bs placed ≡ and_then (place_frame bs s placed) (λ more. place_all n (drop (extent s) bs) more)
 unfolding place_all read_frame
 place_read n [] placed s e = absurd (apart e)
@@ -80,11 +81,11 @@ stops-there n at bs placed k h (unlaid s e l) = stop-read n at bs placed s e ∙
 
 module _ (bs : List ℕ) (at : ℕ) (placed : List Piece) (i : Running bs at placed) where
   -- where a frame was read, there was a byte
-  past : (s : Shape) → read_frame (drop at bs) ≡ result s → at < length bs
+  past : (s : Frame) → read_frame (drop at bs) ≡ result s → at < length bs
   past s e = let b = extent-bounds (drop at bs) s e in omega (arith, b, length-drop at bs)
 
   pub goes_on :
-      (s : Shape) (more : List Piece) (used : ℕ) → read_frame (drop at bs) ≡ result s → place_frame (drop at bs) s placed ≡ result more → used ≡ extent s
+      (s : Frame) (more : List Piece) (used : ℕ) → read_frame (drop at bs) ≡ result s → place_frame (drop at bs) s placed ≡ result more → used ≡ extent s
       → Running bs (at + used) more
   goes_on s more used e l w = go i.fuel i.enough i.rest i.stop
     where

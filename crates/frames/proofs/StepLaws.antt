@@ -10,14 +10,15 @@ use borrow.Author.Tests.{leb-true}
 use Rattle.wire.specs.Answer.{Answer, result, ask, and_then}
 use Rattle.wire.specs.Front.{front_at}
 use Rattle.frames.specs.Frame.{Piece, end}
-use Rattle.frames.specs.Read.{Shape, padding, ping, crypto, read_frame, extent, piece_in, FrameFound}
+use Rattle.frames.specs.Read.{read_frame, extent, piece_in, FrameFound}
 use Rattle.frames.specs.Stream.{held, end_of, values, agrees}
 use Rattle.frames.specs.Join.{limit, place, place_frame}
 use Rattle.frames.specs.Buffers.{mark, Carries, agreeing, place_on, Placing, unread, unlaid, Stepping}
 use Rattle.frames.specs.declared.reading.CryptoFrame.{CryptoFrame}
-use Rattle.frames.specs.declared.reading.FrameRead.TheVariants as read
-use Rattle.frames.specs.declared.joining.Joined.TheVariants as joined
-use Rattle.frames.specs.declared.joining.Step.TheVariants as step
+use Rattle.frames.specs.declared.reading.Frame.{Frame}
+use Rattle.frames.specs.declared.reading.Frame.TheVariants as frame
+use Rattle.std.specs.Prelude.{Ok, Err}
+use Rattle.wire.specs.declared.refusals.Refusal.{Refusal}
 use Rattle.wire.proofs.AnswerLaws.{apart, same-result}
 use Rattle.frames.proofs.EachLaws.{length-values}
 use Rattle.frames.proofs.CarryLaws.{bytes-laid, ones-laid, agreeing-as}
@@ -62,7 +63,7 @@ module _
             let h : end p ≤ limit = leb-true (end p) limit t in
             rw (agreeing-as placed p out marks e c (omega arith) (omega arith)) (yes (agrees placed p))
 
-    carries-more : (n l : ℕ) (out' marks' : List ℕ) → Placing p.offset p.bytes out marks (joined.End n) out' marks' → l ≡ max e n
+    carries-more : (n l : ℕ) (out' marks' : List ℕ) → Placing p.offset p.bytes out marks (Ok n) out' marks' → l ≡ max e n
         → Carries (p ∷ placed) out' marks' l
     unfolding end_of
     carries-more n l out' marks' r m =
@@ -78,40 +79,40 @@ module _
 
 -- ---- a frame
 
-some_bytes : (bs : List ℕ) (f : Shape) → result f ≡ read_frame bs → 1 ≤ length bs
+some_bytes : (bs : List ℕ) (f : Frame) → result f ≡ read_frame bs → 1 ≤ length bs
 unfolding read_frame
 some_bytes [] f e = absurd (apart (sym e))
 some_bytes (b ∷ bs) f e = omega arith
 
 module _ {bs out marks : List ℕ} {e : ℕ} (he : e ≤ limit) where
   -- a frame of one byte that has nothing to place
-  step_past : (f : Shape) → result f ≡ read_frame bs → 1 ≡ extent f → ((placed : List Piece) → place_frame bs f placed ≡ result placed)
-      → Stepping bs out marks e (step.Next 1 e) out marks
+  step_past : (f : Frame) → result f ≡ read_frame bs → 1 ≡ extent f → ((placed : List Piece) → place_frame bs f placed ≡ result placed)
+      → Stepping bs out marks e (Ok (record { used = 1; end = e })) out marks
   step_past f r w l =
       record {
         is = λ placed c. record { shape = f; more = placed; read = sym r; laid = l placed; width = w; carries = c };
         bounds = (lit≤ tt, some_bytes bs f r, he);
       }
 
-  pub step-padding : FrameFound bs read.Padding → Stepping bs out marks e (step.Next 1 e) out marks
-  step-padding f = step_past padding f.is refl (λ placed. refl)
+  pub step-padding : FrameFound bs (Ok frame.Padding) → Stepping bs out marks e (Ok (record { used = 1; end = e })) out marks
+  step-padding f = step_past frame.Padding f.is refl (λ placed. refl)
 
-  pub step-ping : FrameFound bs read.Ping → Stepping bs out marks e (step.Next 1 e) out marks
-  step-ping f = step_past ping f.is refl (λ placed. refl)
+  pub step-ping : FrameFound bs (Ok frame.Ping) → Stepping bs out marks e (Ok (record { used = 1; end = e })) out marks
+  step-ping f = step_past frame.Ping f.is refl (λ placed. refl)
 
-  pub step-unread : {n : ℕ} → FrameFound bs (read.Refused n) → Stepping bs out marks e (step.Refused n) out marks
+  pub step-unread : {k : Refusal} → FrameFound bs (Err k) → Stepping bs out marks e (Err k) out marks
   step-unread f = record { is = λ placed c. unread (sym f.is); bounds = f.bounds }
 
   module _
-      {c : CryptoFrame} {out' marks' : List ℕ} (f : FrameFound bs (read.Crypto c)) (ho : limit ≤ length out) (hm : limit ≤ length marks)
+      {c : CryptoFrame} {out' marks' : List ℕ} (f : FrameFound bs (Ok (frame.Crypto c))) (ho : limit ≤ length out) (hm : limit ≤ length marks)
     where
-      pub step-placed : {n l : ℕ} → Placing c.offset (piece_in bs c).bytes out marks (joined.End n) out' marks' → l ≡ max e n
-          → Stepping bs out marks e (step.Next c.end l) out' marks'
+      pub step-placed : {n l : ℕ} → Placing c.offset (piece_in bs c).bytes out marks (Ok n) out' marks' → l ≡ max e n
+          → Stepping bs out marks e (Ok (record { used = c.end; end = l })) out' marks'
       step-placed {n} {l} r m =
           record {
             is = λ placed k.
                 record {
-                  shape = crypto c;
+                  shape = frame.Crypto c;
                   more = piece_in bs c ∷ placed;
                   read = sym f.is;
                   laid = place-on placed (piece_in bs c) out marks e k ho hm ∙ rw (← r.is);
@@ -121,10 +122,10 @@ module _ {bs out marks : List ℕ} {e : ℕ} (he : e ≤ limit) where
             bounds = (omega (arith, f.bounds), f.bounds.2, omega (arith, r.bounds));
           }
 
-      pub step-unlaid : {n : ℕ} → Placing c.offset (piece_in bs c).bytes out marks (joined.Refused n) out' marks'
-          → Stepping bs out marks e (step.Refused n) out' marks'
+      pub step-unlaid : {k : Refusal} → Placing c.offset (piece_in bs c).bytes out marks (Err k) out' marks'
+          → Stepping bs out marks e (Err k) out' marks'
       step-unlaid r =
           record {
-            is = λ placed k. unlaid (crypto c) (sym f.is) (place-on placed (piece_in bs c) out marks e k ho hm ∙ rw (← r.is));
+            is = λ placed k. unlaid (frame.Crypto c) (sym f.is) (place-on placed (piece_in bs c) out marks e k ho hm ∙ rw (← r.is));
             bounds = r.bounds;
           }

@@ -9,7 +9,8 @@ use Rattle.wire.specs.Answer.{Answer, result, refused, and_then}
 use Rattle.wire.proofs.AnswerLaws.{apart}
 use Rattle.wire.specs.Stops.{Stopped, stopped, Numbered, StopWithin}
 use Rattle.frames.specs.Frame.{Piece}
-use Rattle.frames.specs.Read.{Shape, read_frame, extent}
+use Rattle.frames.specs.Read.{read_frame, extent}
+use Rattle.frames.specs.declared.reading.Frame.{Frame}
 use Rattle.frames.specs.Join.{place_frame, place_all, close, join}
 use Rattle.frames.specs.Stops.{stop_at, first_stop, place_stops, join_stops}
 use Rattle.frames.proofs.ReadBack.{extent-bounds}
@@ -22,7 +23,7 @@ stop-none zero at bs placed h = refl
 stop-none (suc n) at [] placed h = refl
 stop-none (suc n) at (b ∷ bs) placed h = absurd (omega arith)
 
-pub stop-read : (n at : ℕ) (bs : List ℕ) (placed : List Piece) (s : Shape) → read_frame bs ≡ result s
+pub stop-read : (n at : ℕ) (bs : List ℕ) (placed : List Piece) (s : Frame) → read_frame bs ≡ result s
     → place_stops (suc n) at bs placed ≡ stop_at at (place_frame bs s placed) (λ more. place_stops n (at + extent s) (drop (extent s) bs) more)
 unfolding place_stops read_frame
 stop-read n at [] placed s e = absurd (apart e)

@@ -1,20 +1,20 @@
 -- How output and marks carry the pieces placed so far: what the private functions of the joiner promise each other.
-use Rattle.std.specs.Prelude.{ℕ, ◌+◌, ◌≤◌, ◌<◌, ◌≡◌, Bool, not, ◌||◌, List, length, take, drop, get_or, replicate, eqb, leb}
+use Rattle.std.specs.Prelude.{ℕ, ◌+◌, ◌≤◌, ◌<◌, ◌≡◌, Bool, not, ◌||◌, List, length, take, drop, get_or, replicate, eqb, leb, Result, Ok, Err, IfOk}
 use Rattle.std.proofs.Math.Option.{Option, none, some}
-use Rattle.wire.specs.Answer.{Answer, result, refused, ask, unless_refused, IsNumber}
+use Rattle.wire.specs.Answer.{Answer, result, refused, ask, unless_refused}
+use Rattle.wire.specs.Refusals.{question, answer_of}
+use Rattle.wire.specs.declared.Stop.{Stop}
+use Rattle.wire.specs.declared.refusals.Refusal.{Refusal}
 use Rattle.wire.specs.Front.{front_at}
 use Rattle.wire.specs.Sums.{indicator}
 use Rattle.wire.specs.Stops.{Stopped, stopped}
 use Rattle.frames.specs.Frame.{Piece}
-use Rattle.frames.specs.Read.{Shape, read_frame, extent}
+use Rattle.frames.specs.Read.{read_frame, extent}
 use Rattle.frames.specs.Stream.{filled, held, end_of, each, values}
-use Rattle.frames.specs.Join.{limit, place_frame, join, ended, join_of, padded, out_after, marks_after, end_answer, JoinBounds}
+use Rattle.frames.specs.Join.{limit, place_frame, join, ended, join_of, padded, out_after, marks_after}
 use Rattle.frames.specs.Stops.{join_stops, joiner_stops}
-use Rattle.frames.specs.declared.joining.Joined.{Joined}
+use Rattle.frames.specs.declared.reading.Frame.{Frame}
 use Rattle.frames.specs.declared.joining.Step.{Step}
-use Rattle.frames.specs.declared.joining.Step.TheVariants as step
-use Rattle.frames.specs.declared.joining.Walked.{Walked}
-use Rattle.frames.specs.declared.joining.Walked.TheVariants as walked
 
 -- 1 where pieces have a byte
 abbrev pub mark : List Piece → ℕ → ℕ
@@ -57,19 +57,18 @@ place_on offset piece out marks =
     ask (leb (offset + n) limit) 13
     (ask (agreeing piece (take n (drop offset out)) (take n (drop offset marks))) 14 (result (offset + n)))
 
-pub record Placing (offset : ℕ) (piece out marks : List ℕ) (r : Joined) (out' marks' : List ℕ) : Type 0 where
-  pub is : end_answer r ≡ place_on offset piece out marks
+pub record Placing (offset : ℕ) (piece out marks : List ℕ) (r : Result ℕ Refusal) (out' marks' : List ℕ) : Type 0 where
+  pub is : answer_of r ≡ place_on offset piece out marks
   pub output : out' ≡ unless_refused (place_on offset piece out marks) (λ e. front_at offset piece out) out
   pub ones : marks' ≡ unless_refused (place_on offset piece out marks) (λ e. front_at offset (replicate (length piece) 1) marks) marks
-  pub bounds : JoinBounds r
+  pub bounds : IfOk r (λ e. e ≤ limit)
 
-abbrev pub StepBounds : ℕ → Step → Type 0
-StepBounds n (step.Next used e) = (1 ≤ used) × (used ≤ n) × (e ≤ limit)
-StepBounds n (step.Refused k) = IsNumber k
+abbrev pub StepBounds : ℕ → Result Step Refusal → Type 0
+StepBounds n r = IfOk r (λ s. (1 ≤ s.used) × (s.used ≤ n) × (s.end ≤ limit))
 
 -- a frame was read, and what it has was placed; or its number
 pub record Went (bs : List ℕ) (placed : List Piece) (used end : ℕ) (out marks : List ℕ) : Type 0 where
-  pub shape : Shape
+  pub shape : Frame
   pub more : List Piece
   pub read : read_frame bs ≡ result shape
   pub laid : place_frame bs shape placed ≡ result more
@@ -78,33 +77,33 @@ pub record Went (bs : List ℕ) (placed : List Piece) (used end : ℕ) (out mark
 
 pub data Refuses (bs : List ℕ) (placed : List Piece) (n : ℕ) : Type 0 where
   unread : read_frame bs ≡ refused n → Refuses bs placed n
-  unlaid : (f : Shape) → read_frame bs ≡ result f → place_frame bs f placed ≡ refused n → Refuses bs placed n
+  unlaid : (f : Frame) → read_frame bs ≡ result f → place_frame bs f placed ≡ refused n → Refuses bs placed n
 
-abbrev pub Stepped : List ℕ → List Piece → Step → List ℕ → List ℕ → Type 0
-Stepped bs placed (step.Next used e) out marks = Went bs placed used e out marks
-Stepped bs placed (step.Refused n) out marks = Refuses bs placed n
+abbrev pub Stepped : List ℕ → List Piece → Result Step Refusal → List ℕ → List ℕ → Type 0
+Stepped bs placed (Ok s) out marks = Went bs placed s.used s.end out marks
+Stepped bs placed (Err e) out marks = Refuses bs placed (question e)
 
-pub record Stepping (bs out marks : List ℕ) (end : ℕ) (r : Step) (out' marks' : List ℕ) : Type 0 where
+pub record Stepping (bs out marks : List ℕ) (end : ℕ) (r : Result Step Refusal) (out' marks' : List ℕ) : Type 0 where
   pub is : (placed : List Piece) → Carries placed out marks end → Stepped bs placed r out' marks'
   pub bounds : StepBounds (length bs) r
 
 -- ---- All frames
 
 -- the two readings of what the walk over the frames answers: the joiner's answer, and where it stopped
-abbrev pub walked_answer : Walked → Answer ℕ
-walked_answer (walked.End e) = result e
-walked_answer (walked.Refused n at) = refused n
+abbrev pub walked_answer : Result ℕ Stop → Answer ℕ
+walked_answer (Ok e) = result e
+walked_answer (Err s) = refused (question s.refusal)
 
-abbrev pub walked_stop : Walked → Option Stopped
-walked_stop (walked.End e) = none
-walked_stop (walked.Refused n at) = some (stopped n at)
+abbrev pub walked_stop : Result ℕ Stop → Option Stopped
+walked_stop (Ok e) = none
+walked_stop (Err s) = some (stopped (question s.refusal) s.place)
 
-abbrev pub WalkBounds : ℕ → Walked → Type 0
-WalkBounds length (walked.End e) = e ≤ limit
-WalkBounds length (walked.Refused n at) = IsNumber n × (at ≤ length)
+abbrev pub WalkBounds : ℕ → Result ℕ Stop → Type 0
+WalkBounds length (Ok e) = e ≤ limit
+WalkBounds length (Err s) = s.place ≤ length
 
 -- on buffers that were all zero; a refusal leaves them to the caller
-pub record Joining (bs out marks : List ℕ) (r : Walked) (out' marks' : List ℕ) : Type 0 where
+pub record Joining (bs out marks : List ℕ) (r : Result ℕ Stop) (out' marks' : List ℕ) : Type 0 where
   pub is : walked_answer r ≡ ended (join bs)
   pub stop : walked_stop r ≡ join_stops bs
   pub output : (s : List ℕ) → join bs ≡ result s → out' ≡ padded s (length out)
@@ -112,7 +111,7 @@ pub record Joining (bs out marks : List ℕ) (r : Walked) (out' marks' : List �
   pub bounds : WalkBounds (length bs) r
 
 -- on any buffers
-pub record Walks (bs out marks : List ℕ) (r : Walked) (out' marks' : List ℕ) : Type 0 where
+pub record Walks (bs out marks : List ℕ) (r : Result ℕ Stop) (out' marks' : List ℕ) : Type 0 where
   pub is : walked_answer r ≡ join_of bs out marks
   pub stop : walked_stop r ≡ joiner_stops bs out marks
   pub output : out' ≡ out_after bs out marks

@@ -1,12 +1,12 @@
 -- The frame writer (document 01, "Around them" and questions 24 to 26).
-use Rattle.std.specs.Prelude.{ℕ, zero, suc, ◌+◌, ◌≤◌, ◌≡◌, ◌&&◌, List, [], ◌∷◌, length, take, drop, leb}
-use Rattle.wire.specs.Answer.{Answer, result, refused, Told, told, ask, unless_refused, IsNumber}
+use Rattle.std.specs.Prelude.{ℕ, zero, suc, ◌+◌, ◌≤◌, ◌≡◌, ◌&&◌, List, [], ◌∷◌, length, take, drop, leb, Result, IfOk}
+use Rattle.wire.specs.Answer.{Answer, result, told, ask, unless_refused}
+use Rattle.wire.specs.Refusals.{answer_of, told_of}
+use Rattle.wire.specs.declared.refusals.Refusal.{Refusal}
 use Rattle.wire.specs.Front.{front}
 use Rattle.varint.specs.Varint.{class}
 use Rattle.frames.specs.Frame.{Piece, Frame, crypto, encode_all}
 use Rattle.frames.specs.Join.{limit}
-use Rattle.frames.specs.declared.cutting.Cut.{Cut}
-use Rattle.frames.specs.declared.cutting.Cut.TheVariants as cut-answer
 
 -- a piece as a CRYPTO frame with "shortest varints"
 abbrev pub short_frame : Piece → Frame
@@ -37,23 +37,10 @@ cut_of c hello room =
 unfoldable pub after_cut : ℕ → List ℕ → List ℕ → List ℕ
 after_cut c hello out = unless_refused (cut_of c hello (length out)) (λ n. front (frames_of c hello) out) out
 
--- ---- What the answer of the code says, and its promise
+-- ---- The promise: "A refusal carries its number, zero counts", so its length is 0
 
-abbrev pub length_answer : Cut → Answer ℕ
-length_answer (cut-answer.Length n) = result n
-length_answer (cut-answer.Refused n) = refused n
-
--- and in numbers, for each case: "A refusal carries its number, zero counts", so its length is 0
-abbrev pub length_told : Cut → Told ℕ
-length_told (cut-answer.Length n) = record { number = 0; values = n }
-length_told (cut-answer.Refused n) = record { number = n; values = 0 }
-
-abbrev pub CutBounds : ℕ → Cut → Type 0
-CutBounds room (cut-answer.Length n) = n ≤ room
-CutBounds room (cut-answer.Refused n) = IsNumber n
-
-pub record Cuts (c : ℕ) (hello old : List ℕ) (r : Cut) (new : List ℕ) : Type 0 where
-  pub is : length_answer r ≡ cut_of c hello (length old)
-  pub tells : length_told r ≡ told 0 (cut_of c hello (length old))
+pub record Cuts (c : ℕ) (hello old : List ℕ) (r : Result ℕ Refusal) (new : List ℕ) : Type 0 where
+  pub is : answer_of r ≡ cut_of c hello (length old)
+  pub tells : told_of 0 r ≡ told 0 (cut_of c hello (length old))
   pub output : new ≡ after_cut c hello old
-  pub bounds : CutBounds (length old) r
+  pub bounds : IfOk r (λ n. n ≤ length old)

@@ -1,11 +1,13 @@
 -- The joiner (document 01, "Joining frames" and questions 10 to 15).
-use Rattle.std.specs.Prelude.{ℕ, zero, suc, ◌-◌, ◌≤◌, ◌≡◌, Bool, cond, ◌&&◌, List, [], ◌∷◌, ◌++◌, length, drop, replicate, leb}
-use Rattle.wire.specs.Answer.{Answer, result, refused, Told, told, ask, and_then, IsNumber}
+use Rattle.std.specs.Prelude.{ℕ, zero, suc, ◌-◌, ◌≤◌, ◌≡◌, Bool, cond, ◌&&◌, List, [], ◌∷◌, ◌++◌, length, drop, replicate, leb, Result, IfOk}
+use Rattle.wire.specs.Answer.{Answer, result, refused, told, ask, and_then}
+use Rattle.wire.specs.Refusals.{answer_of, told_of}
+use Rattle.wire.specs.declared.refusals.Refusal.{Refusal}
 use Rattle.frames.specs.Frame.{Piece, end}
-use Rattle.frames.specs.Read.{Shape, padding, ping, crypto, read_frame, extent, piece_in}
+use Rattle.frames.specs.Read.{read_frame, extent, piece_in}
 use Rattle.frames.specs.Stream.{agrees, gapless, stream}
-use Rattle.frames.specs.declared.joining.Joined.{Joined}
-use Rattle.frames.specs.declared.joining.Joined.TheVariants as joined
+use Rattle.frames.specs.declared.reading.Frame.{Frame}
+use Rattle.frames.specs.declared.reading.Frame.TheVariants as frame
 
 -- the longest stream, and the least length of each buffer
 abbrev pub limit : ℕ
@@ -16,10 +18,10 @@ unfoldable pub place : Piece → List Piece → Answer (List Piece)
 place p placed = ask (leb (end p) limit) 13 (ask (agrees placed p) 14 (result (p ∷ placed)))
 
 -- PADDING and PING have nothing to place
-abbrev pub place_frame : List ℕ → Shape → List Piece → Answer (List Piece)
-place_frame bs padding placed = result placed
-place_frame bs ping placed = result placed
-place_frame bs (crypto c) placed = place (piece_in bs c) placed
+abbrev pub place_frame : List ℕ → Frame → List Piece → Answer (List Piece)
+place_frame bs frame.Padding placed = result placed
+place_frame bs frame.Ping placed = result placed
+place_frame bs (frame.Crypto c) placed = place (piece_in bs c) placed
 
 -- "Then frame by frame": a frame takes a byte at least, so the count of the bytes is fuel enough
 unfoldable pub place_all : ℕ → List ℕ → List Piece → Answer (List Piece)
@@ -69,24 +71,11 @@ out_after bs out marks = cond (roomy out marks) (padded (placed_of (join bs)) (l
 unfoldable pub marks_after : List ℕ → List ℕ → List ℕ → List ℕ
 marks_after bs out marks = cond (roomy out marks) (padded (replicate (length (placed_of (join bs))) 1) (length marks)) marks
 
--- ---- What the answer of the code says, and its promise
+-- ---- The promise: "A refusal carries its number, zero counts", so its end is 0
 
-abbrev pub end_answer : Joined → Answer ℕ
-end_answer (joined.End e) = result e
-end_answer (joined.Refused n) = refused n
-
--- and in numbers, for each case: "A refusal carries its number, zero counts", so its end is 0
-abbrev pub end_told : Joined → Told ℕ
-end_told (joined.End e) = record { number = 0; values = e }
-end_told (joined.Refused n) = record { number = n; values = 0 }
-
-abbrev pub JoinBounds : Joined → Type 0
-JoinBounds (joined.End e) = e ≤ limit
-JoinBounds (joined.Refused n) = IsNumber n
-
-pub record Joins (bs out marks : List ℕ) (r : Joined) (out' marks' : List ℕ) : Type 0 where
-  pub is : end_answer r ≡ join_of bs out marks
-  pub tells : end_told r ≡ told 0 (join_of bs out marks)
+pub record Joins (bs out marks : List ℕ) (r : Result ℕ Refusal) (out' marks' : List ℕ) : Type 0 where
+  pub is : answer_of r ≡ join_of bs out marks
+  pub tells : told_of 0 r ≡ told 0 (join_of bs out marks)
   pub output : out' ≡ out_after bs out marks
   pub marked : marks' ≡ marks_after bs out marks
-  pub bounds : JoinBounds r
+  pub bounds : IfOk r (λ e. e ≤ limit)

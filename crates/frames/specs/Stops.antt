@@ -1,5 +1,6 @@
 -- Where the joiner stops: the number of the refusal (document 01, questions 10 to 15) and the place in the list of frames.
 use Rattle.std.specs.Prelude.{ℕ, zero, suc, ◌+◌, ◌≡◌, cond, List, [], ◌∷◌, length, drop}
+use Rattle.std.specs.Prelude as std
 use Rattle.std.proofs.Math.Option.{Option, none, some}
 use Rattle.wire.specs.Answer.{Answer, result, refused}
 use Rattle.wire.specs.Stops.{Stopped, stopped, stop_of, StopBounds}
@@ -37,7 +38,7 @@ joiner_stops bs out marks = cond (roomy out marks) (join_stops bs) (some (stoppe
 
 -- ---- What the answer of the code promises
 
-pub record StopsAt (bs out marks : List ℕ) (r : Stop) (out' marks' : List ℕ) : Type 0 where
+pub record StopsAt (bs out marks : List ℕ) (r : std.Option Stop) (out' marks' : List ℕ) : Type 0 where
   pub is : stop_of r ≡ joiner_stops bs out marks
   pub output : out' ≡ out_after bs out marks
   pub marked : marks' ≡ marks_after bs out marks

@@ -1,5 +1,5 @@
 // The frame writer: a hello cut into CRYPTO frames.
-ghost use Rattle.std.specs.Prelude.{◌+◌, ◌≤◌, min, ◌≡◌, length};
+ghost use Rattle.std.specs.Prelude.{◌+◌, ◌≤◌, ◌≡◌, length};
 ghost use Rattle.wire.specs.Front.{Put};
 ghost use Rattle.frames.specs.Frame.{encode};
 ghost use Rattle.frames.specs.Join.{limit};
@@ -7,13 +7,7 @@ ghost use Rattle.frames.specs.Cut.{short_frame, frames_of, Cuts};
 
 use crate::joining::LIMIT;
 use varint::{put_varint, varint_length};
-
-// The length of all frames, or the number of the refusal.
-#[derive(Clone, Copy)]
-pub enum Cut {
-    Length(usize),
-    Refused(u64),
-}
+use wire::Refusal;
 
 // How many bytes the frame of some data takes.
 fn frame_length(offset: usize, bytes: &[u8]) -> usize
@@ -23,25 +17,16 @@ fn frame_length(offset: usize, bytes: &[u8]) -> usize
     1 + varint_length(offset as u64) + varint_length(bytes.len() as u64) + bytes.len()
 }
 
-// The end of the data that begins at a place.
-fn data_end(at: usize, c: usize, length: usize) -> usize
-    requires { (at ≤ length) × (length ≤ limit) }
-    ensures { result ≡ min (at + c) length }
-{
-    if length - at < c { length } else { at + c }
-}
-
 // How many bytes all frames take.
 fn frames_length(c: usize, hello: &[u8]) -> usize
     requires { (1 ≤ c) × (c ≤ limit) × (length hello.now ≤ limit) }
     ensures { result ≡ length (frames_of c hello.now) }
 {
-    let mut at: usize = 0;
-    let mut n: usize = 0;
-    while at < hello.len() {
-        let end = data_end(at, c, hello.len());
-        n = n + frame_length(at, &hello[at..end]);
-        at = end;
+    let mut at = 0;
+    let mut n = 0;
+    for piece in hello.chunks(c) {
+        n += frame_length(at, piece);
+        at += piece.len();
     }
     n
 }
@@ -62,33 +47,29 @@ fn put_frames(out: &mut [u8], c: usize, hello: &[u8]) -> usize
     requires { (1 ≤ c) × (c ≤ limit) × (length hello.now ≤ limit) × (length (frames_of c hello.now) ≤ length out.old) }
     ensures { Put (frames_of c hello.now) result out.old out.new }
 {
-    let mut at: usize = 0;
-    let mut n: usize = 0;
-    while at < hello.len() {
-        let end = data_end(at, c, hello.len());
-        n = n + put_frame(&mut out[n..], at, &hello[at..end]);
-        at = end;
+    let mut at = 0;
+    let mut n = 0;
+    for piece in hello.chunks(c) {
+        n += put_frame(&mut out[n..], at, piece);
+        at += piece.len();
     }
     n
 }
 
 // Cuts a hello into frames of c data bytes, the last perhaps shorter; later bytes of the output stay. Refusals leave all of it: 24 for
 // a c that is not from 1 to 16,384, 25 for a hello of more than 16,384 bytes, 26 where the output does not hold all frames.
-pub fn write_frames(c: u64, hello: &[u8], out: &mut [u8]) -> Cut
+pub fn write_frames(c: u64, hello: &[u8], out: &mut [u8]) -> Result<usize, Refusal>
     ensures { Cuts c hello.now out.old result out.new }
 {
-    if c < 1 {
-        return Cut::Refused(24);
-    }
-    if (LIMIT as u64) < c {
-        return Cut::Refused(24);
+    if c < 1 || (LIMIT as u64) < c {
+        return Err(Refusal::FrameSize);
     }
     if LIMIT < hello.len() {
-        return Cut::Refused(25);
+        return Err(Refusal::HelloTooLongToCut);
     }
     let size = c as usize;
     if out.len() < frames_length(size, hello) {
-        return Cut::Refused(26);
+        return Err(Refusal::NoRoomForFrames);
     }
-    Cut::Length(put_frames(out, size, hello))
+    Ok(put_frames(out, size, hello))
 }

@@ -1,85 +1,80 @@
-// The commands by number: their words, and how many operands each has, of which kind. The operands stand in this order: a number, bytes
+// The commands: their words, and how many operands each has, of which kind. The operands stand in this order: a number, bytes
 // that are read, buffers that are filled.
 ghost use Rattle.std.specs.Prelude.{◌≤◌};
 
-use script::words::word_at;
+#[derive(Clone, Copy, PartialEq, Eq, Debug)]
+pub enum Command {
+    Size,
+    Write,
+    Read,
+    Make,
+    Join,
+    Frames,
+    Split,
+    ShowFrames,
+    Report,
+    Show,
+    Name,
+    Set,
+    Alike,
+}
 
-pub const SIZE: usize = 0;
-
-pub const WRITE: usize = 1;
-
-pub const READ: usize = 2;
-
-pub const MAKE: usize = 3;
-
-pub const JOIN: usize = 4;
-
-pub const FRAMES: usize = 5;
-
-pub const SPLIT: usize = 6;
-
-pub const SHOW_FRAMES: usize = 7;
-
-pub const REPORT: usize = 8;
-
-pub const SHOW: usize = 9;
-
-pub const NAME: usize = 10;
-
-pub const SET: usize = 11;
-
-pub const ALIKE: usize = 12;
-
-// No command.
-pub const NONE: usize = 13;
-
-// The number of the command that has this word.
-pub fn number_of(word: &[u8]) -> usize {
-    let words = b"size write read make join frames split show-frames report show name set alike";
-    let mut i: usize = 0;
-    while i < NONE {
-        if check::same(word, word_at(words, i)) {
-            return i;
+impl Command {
+    // The command that has this word.
+    pub fn from_word(word: &[u8]) -> Option<Command> {
+        match word {
+            b"size" => Some(Command::Size),
+            b"write" => Some(Command::Write),
+            b"read" => Some(Command::Read),
+            b"make" => Some(Command::Make),
+            b"join" => Some(Command::Join),
+            b"frames" => Some(Command::Frames),
+            b"split" => Some(Command::Split),
+            b"show-frames" => Some(Command::ShowFrames),
+            b"report" => Some(Command::Report),
+            b"show" => Some(Command::Show),
+            b"name" => Some(Command::Name),
+            b"set" => Some(Command::Set),
+            b"alike" => Some(Command::Alike),
+            _ => None,
         }
-        i += 1;
     }
-    NONE
-}
 
-// 1 where the first operand is a number, or for `make` a profile.
-pub fn numbers_of(command: usize) -> usize
-    ensures { result ≤ 1 }
-{
-    match command {
-        SIZE | WRITE | MAKE | FRAMES | SPLIT => 1,
-        _ => 0,
+    // 1 where the first operand is a number, or for `make` a profile.
+    pub fn numbers(self) -> usize
+        ensures { result ≤ 1 }
+    {
+        match self {
+            Command::Size | Command::Write | Command::Make | Command::Frames | Command::Split => 1,
+            _ => 0,
+        }
     }
-}
 
-// How many operands are bytes that are read.
-pub fn inputs_of(command: usize) -> usize
-    ensures { result ≤ 3 }
-{
-    match command {
-        SIZE | WRITE => 0,
-        NAME | ALIKE => 2,
-        MAKE => 3,
-        _ => 1,
+    // How many operands are bytes that are read.
+    pub fn inputs(self) -> usize
+        ensures { result ≤ 3 }
+    {
+        match self {
+            Command::Size | Command::Write => 0,
+            Command::Name | Command::Alike => 2,
+            Command::Make => 3,
+            _ => 1,
+        }
     }
-}
 
-// How many operands are buffers that are filled.
-pub fn buffers_of(command: usize) -> usize
-    ensures { result ≤ 2 }
-{
-    match command {
-        WRITE | MAKE | FRAMES => 1,
-        JOIN => 2,
-        _ => 0,
+    // How many operands are buffers that are filled.
+    pub fn buffers(self) -> usize
+        ensures { result ≤ 2 }
+    {
+        match self {
+            Command::Write | Command::Make | Command::Frames => 1,
+            Command::Join => 2,
+            _ => 0,
+        }
     }
-}
 
-// How many operands there are.
-pub fn operands_of(command: usize) -> u8 {
-    (numbers_of(command) + inputs_of(command) + buffers_of(command)) as u8
+    // How many operands there are.
+    pub fn operands(self) -> u8 {
+        (self.numbers() + self.inputs() + self.buffers()) as u8
+    }
 }

@@ -5,13 +5,13 @@ mod bytes;
 mod files;
 pub mod kinds;
 
-ghost use Rattle.std.specs.Prelude.{◌≤◌, length};
+ghost use Rattle.std.specs.Prelude.{◌≤◌, length, IfOk};
 ghost use Rattle.operands.specs.Bounds.{InOrder};
 
-pub use bytes::{Operand, Reading};
-use bytes::{read_operand, whole};
-use kinds::{MAKE, buffers_of, inputs_of, numbers_of};
-use script::reading::{Number, read_number};
+use answers::Fault;
+use bytes::read_operand;
+use kinds::Command;
+use script::reading::read_number;
 use script::words::word_at;
 use std::rt::Files;
 
@@ -30,78 +30,35 @@ pub fn inputs_room() -> [u8; INPUTS] {
 }
 
 // A profile is a number, or one of three names.
-fn read_profile(word: &[u8]) -> Number {
-    if check::same(word, b"chrome") {
-        return Number::Value(0);
+fn read_profile(word: &[u8]) -> Option<u64> {
+    match word {
+        b"chrome" => Some(0),
+        b"firefox" => Some(1),
+        b"curl" => Some(2),
+        _ => read_number(word),
     }
-    if check::same(word, b"firefox") {
-        return Number::Value(1);
-    }
-    if check::same(word, b"curl") {
-        return Number::Value(2);
-    }
-    read_number(word)
 }
 
 // The number that a command has as its first operand, 0 where it has none.
-pub fn read_value(line: &[u8], command: usize) -> Number {
-    if command == MAKE {
-        return read_profile(word_at(line, 1));
+pub fn read_value(line: &[u8], command: Command) -> Result<u64, Fault> {
+    if command.numbers() == 0 {
+        return Ok(0);
     }
-    if numbers_of(command) == 0 {
-        return Number::Value(0);
-    }
-    read_number(word_at(line, 1))
+    let word = word_at(line, 1);
+    let value = if command == Command::Make {
+        read_profile(word)
+    } else {
+        read_number(word)
+    };
+    value.ok_or(Fault::NoNumber)
 }
 
 // The byte operands that a command reads, one after the other in a buffer: where each ends. Those that it lacks are empty.
-#[derive(Clone, Copy)]
+#[derive(Clone, Copy, PartialEq, Eq, Debug)]
 pub struct Inputs {
     pub first: usize,
     pub second: usize,
     pub third: usize,
-    pub reading: Reading,
-}
-
-fn no_inputs(reading: Reading) -> Inputs
-    ensures { InOrder 0 result }
-{
-    Inputs {
-        first: 0,
-        second: 0,
-        third: 0,
-        reading,
-    }
-}
-
-// The ends where operand i ends at a place, and so do those that are still to come.
-fn ended(s: Inputs, i: usize, end: usize) -> Inputs
-    requires { InOrder end s }
-    ensures { InOrder end result }
-{
-    let reading = s.reading;
-    let first = s.first;
-    let second = s.second;
-    match i {
-        0 => Inputs {
-            first: end,
-            second: end,
-            third: end,
-            reading,
-        },
-        1 => Inputs {
-            first,
-            second: end,
-            third: end,
-            reading,
-        },
-        _ => Inputs {
-            first,
-            second,
-            third: end,
-            reading,
-        },
-    }
 }
 
 // Where the room of an operand ends that begins at a place.
@@ -109,54 +66,66 @@ fn room_end(start: usize, most: usize) -> usize
     requires { start ≤ most }
     ensures { (start ≤ result) × (result ≤ most) }
 {
-    if most - start < OPERAND {
-        return most;
+    start + (most - start).min(OPERAND)
+}
+
+// Reads an operand that a command reads, the one that has i others before it, and puts its bytes at a place: where they end. It is
+// empty where the command reads no more than i.
+fn read_input(
+    rt: &impl Files,
+    line: &[u8],
+    command: Command,
+    i: usize,
+    kept: &[u8],
+    out: &mut [u8],
+    start: usize,
+) -> Result<usize, Fault>
+    requires { start ≤ length out.old }
+    ensures { IfOk result (λ end. (start ≤ end) × (end ≤ length out.old)) }
+{
+    if command.inputs() <= i {
+        return Ok(start);
     }
-    start + OPERAND
+    let word = word_at(line, 1 + command.numbers() + i);
+    let end = room_end(start, out.len());
+    let n = read_operand(rt, word, kept, &mut out[start..end])?;
+    Ok(start + n)
 }
 
 // Reads the bytes that a command reads; `_` stands for `kept`.
 pub fn read_inputs(
     rt: &impl Files,
     line: &[u8],
-    command: usize,
+    command: Command,
     kept: &[u8],
     out: &mut [u8],
-) -> Inputs
-    ensures { InOrder (length out.old) result }
+) -> Result<Inputs, Fault>
+    ensures { IfOk result (λ r. InOrder (length out.old) r) }
 {
-    let count = inputs_of(command);
-    let from = 1 + numbers_of(command);
-    let mut s = no_inputs(Reading::Whole);
-    let mut i: usize = 0;
-    while i < count {
-        let start = s.third;
-        let end = room_end(start, out.len());
-        let one = read_operand(rt, word_at(line, from + i), kept, &mut out[start..end]);
-        let reading = one.reading;
-        if let Reading::Failed(fault) = reading {
-            return no_inputs(Reading::Failed(fault));
-        }
-        s = ended(s, i, start + one.count);
-        i += 1;
-    }
-    s
+    let first = read_input(rt, line, command, 0, kept, out, 0)?;
+    let second = read_input(rt, line, command, 1, kept, out, first)?;
+    let third = read_input(rt, line, command, 2, kept, out, second)?;
+    Ok(Inputs {
+        first,
+        second,
+        third,
+    })
 }
 
 // Reads a buffer that a command fills, the one that has i others before it; it is empty where the command fills no more than i.
 pub fn read_buffer(
     rt: &impl Files,
     line: &[u8],
-    command: usize,
+    command: Command,
     i: usize,
     kept: &[u8],
     out: &mut [u8],
-) -> Operand
-    ensures { result.count ≤ length out.old }
+) -> Result<usize, Fault>
+    ensures { IfOk result (λ n. n ≤ length out.old) }
 {
-    if buffers_of(command) <= i {
-        return whole(0);
+    if command.buffers() <= i {
+        return Ok(0);
     }
-    let place = 1 + numbers_of(command) + inputs_of(command) + i;
+    let place = 1 + command.numbers() + command.inputs() + i;
     read_operand(rt, word_at(line, place), kept, out)
 }

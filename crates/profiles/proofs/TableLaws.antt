@@ -5,6 +5,7 @@ use mathlib.Core.List.{List, [], ◌∷◌}
 use mathlib.Core.Bool.{true, false}
 use native.Mathlib.Omega.{arith}
 use lib.ListN.{length, get_or}
+use lib.Dec.{lit<}
 use Rattle.wire.specs.Sums.{total, any, member, distinct}
 use Rattle.varint.specs.Varint.{first_above, class}
 use Rattle.profiles.specs.Profile as value
@@ -12,12 +13,20 @@ use Rattle.profiles.specs.Profile.{chrome_profile, firefox_profile, curl_profile
 use Rattle.profiles.specs.Sizes.{key_share_size, key_draws, parameter_draws, parameter_length, fixed_length, extension_extent, hello_length, hello_drawn, longest, tape_needed}
 use Rattle.profiles.specs.Test.{all, word_list, id_ok, parameter_ok, known, passes}
 use Rattle.profiles.specs.Rows.{padded, type_row, group_row, share_row, parameter_row}
-use Rattle.profiles.specs.Code.{profile_of, Chosen}
+use Rattle.profiles.specs.Code.{browser_number, profile_of, Chosen}
+use Rattle.profiles.specs.declared.Browser.{Browser}
+use Rattle.profiles.specs.declared.Browser.TheVariants as named
 use Rattle.profiles.specs.declared.ExtType.{ExtType}
 use Rattle.profiles.specs.declared.Group.{Group}
-use Rattle.profiles.specs.declared.Parameter.{Parameter}
 use Rattle.profiles.specs.declared.Profile.{Profile}
+use Rattle.profiles.specs.declared.TpEntry.{TpEntry}
 use Rattle.profiles.proofs.Table.{at-three, chrome-length, firefox-length, curl-length, chrome-tape, firefox-tape, curl-tape}
+
+-- a browser's number is one of the three
+pub named-below : (b : Browser) → browser_number b < 3
+named-below named.Chrome = lit< tt
+named-below named.Firefox = lit< tt
+named-below named.Curl = lit< tt
 
 -- what a table of three rows holds at a place
 abbrev pub of_three : {A : Type 0} → (ℕ → A) → A → ℕ → A
@@ -27,7 +36,7 @@ pub row_of_lem : {A : Type 0} (f : ℕ → A) (d : A) (b : ℕ) → b < 3 → of
 row_of_lem f d = at-three (λ b. of_three f d b ≡ f b) refl refl refl
 
 -- the profile that the tables give, with the rows of structs as they are handed over; the last three are document 01's numbers
-abbrev pub filled : ℕ → List ExtType → List Group → List Group → List Parameter → Profile
+abbrev pub filled : ℕ → List ExtType → List Group → List Group → List TpEntry → Profile
 filled b types groups shares parameters = record {
   cipher_suites = of_three (λ k. padded 16 0 (for_browser k).cipher_suites) [] b;
   suite_count = of_three (λ k. length (for_browser k).cipher_suites) 0 b;
@@ -116,6 +125,6 @@ chosen b h =
       };
     }
 
-pub chosen_of : (b : ℕ) → b < 3 → {types : List ExtType} {groups shares : List Group} {parameters : List Parameter}
+pub chosen_of : (b : ℕ) → b < 3 → {types : List ExtType} {groups shares : List Group} {parameters : List TpEntry}
     → types ≡ type_row b → groups ≡ group_row b → shares ≡ share_row b → parameters ≡ parameter_row b → Chosen b (filled b types groups shares parameters)
 chosen_of b h t g s p = rw (t, g, s, p) (chosen b h)

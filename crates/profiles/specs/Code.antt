@@ -1,15 +1,28 @@
--- What the code's profiles and parameters stand for, and what `for_browser` promises.
-use Rattle.std.specs.Prelude.{ℕ, ◌+◌, ◌*◌, ◌≤◌, ◌<◌, ◌≡◌, true, List, [], ◌∷◌, map, take}
+-- What the code's browsers, profiles and parameters stand for, and what `for_browser` promises.
+use Rattle.std.specs.Prelude.{ℕ, ◌+◌, ◌*◌, ◌≤◌, ◌<◌, ◌≡◌, true, List, [], ◌∷◌, map, take, Result, MatchResult}
 use Rattle.profiles.specs.Profile as value
 use Rattle.profiles.specs.Profile.{for_browser}
 use Rattle.profiles.specs.Sizes.{longest, tape_needed}
 use Rattle.profiles.specs.Test.{passes}
+use Rattle.wire.specs.declared.refusals.Refusal.{Refusal}
+use Rattle.wire.specs.declared.refusals.Refusal.TheVariants as no
+use Rattle.profiles.specs.declared.Browser.{Browser}
+use Rattle.profiles.specs.declared.Browser.TheVariants as named
 use Rattle.profiles.specs.declared.ExtType.{ExtType}
 use Rattle.profiles.specs.declared.Group.{Group}
-use Rattle.profiles.specs.declared.Parameter.{Parameter}
 use Rattle.profiles.specs.declared.Profile.{Profile}
 use Rattle.profiles.specs.declared.TpEntry.{TpEntry}
 use Rattle.profiles.specs.declared.TpEntry.TheVariants as entry
+
+-- "Profile 0 is Chrome, 1 Firefox, 2 curl"
+abbrev pub browser_number : Browser → ℕ
+browser_number named.Chrome = 0
+browser_number named.Firefox = 1
+browser_number named.Curl = 2
+
+-- the browser that has a number, or the refusal where none has
+abbrev pub Chooses : ℕ → Result Browser Refusal → Type 0
+Chooses n r = MatchResult r (λ b. browser_number b ≡ n) (λ e. (e ≡ no.UnknownProfile) × (3 ≤ n))
 
 -- the numbers of types and of groups
 abbrev pub type_number : ExtType → ℕ
@@ -22,15 +35,12 @@ group_number g = g.0
 abbrev pub tp_bytes : List ℕ
 tp_bytes = 0x43 ∷ 0xe8 ∷ []
 
-abbrev pub entry_of : TpEntry → value.Parameter
-entry_of (entry.Varint i v) = value.varint i v
-entry_of (entry.Bytes i n) = value.bytes i (take n tp_bytes)
-entry_of (entry.VersionInfo i) = value.version_info i
-entry_of (entry.ScidSource i) = value.scid_source i
-entry_of entry.Grease = value.grease
-
-abbrev pub parameter_of : Parameter → value.Parameter
-parameter_of p = entry_of p.0
+abbrev pub parameter_of : TpEntry → value.Parameter
+parameter_of (entry.Varint i v) = value.varint i v
+parameter_of (entry.Bytes i n) = value.bytes i (take n tp_bytes)
+parameter_of (entry.VersionInfo i) = value.version_info i
+parameter_of (entry.ScidSource i) = value.scid_source i
+parameter_of entry.Grease = value.grease
 
 -- the first so many places of an array, as numbers and as parameters
 abbrev pub types_in : ℕ → List ExtType → List ℕ
@@ -39,7 +49,7 @@ types_in count types = map type_number (take count types)
 abbrev pub groups_in : ℕ → List Group → List ℕ
 groups_in count groups = map group_number (take count groups)
 
-abbrev pub parameters_in : ℕ → List Parameter → List value.Parameter
+abbrev pub parameters_in : ℕ → List TpEntry → List value.Parameter
 parameters_in count parameters = map parameter_of (take count parameters)
 
 abbrev pub profile_of : Profile → value.Profile

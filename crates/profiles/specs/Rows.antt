@@ -4,7 +4,6 @@ use Rattle.profiles.specs.Profile as value
 use Rattle.profiles.specs.Profile.{for_browser}
 use Rattle.profiles.specs.declared.ExtType.{ExtType}
 use Rattle.profiles.specs.declared.Group.{Group}
-use Rattle.profiles.specs.declared.Parameter.{Parameter}
 use Rattle.profiles.specs.declared.TpEntry.{TpEntry}
 use Rattle.profiles.specs.declared.TpEntry.TheVariants as entry
 
@@ -25,9 +24,6 @@ entry_for (value.version_info i) = entry.VersionInfo i
 entry_for (value.scid_source i) = entry.ScidSource i
 entry_for value.grease = entry.Grease
 
-abbrev pub place : value.Parameter → Parameter
-place q = record { 0 = entry_for q }
-
 abbrev pub type_row : ℕ → List ExtType
 type_row b = padded 16 (ext_type 0) (map ext_type (for_browser b).extensions_order)
 
@@ -37,5 +33,5 @@ group_row b = padded 8 (group 0) (map group (for_browser b).supported_groups)
 abbrev pub share_row : ℕ → List Group
 share_row b = padded 4 (group 0) (map group (for_browser b).key_share_groups)
 
-abbrev pub parameter_row : ℕ → List Parameter
-parameter_row b = padded 16 (place (value.varint 0 0)) (map place (for_browser b).quic_tp)
+abbrev pub parameter_row : ℕ → List TpEntry
+parameter_row b = padded 16 (entry_for (value.varint 0 0)) (map entry_for (for_browser b).quic_tp)

@@ -1,6 +1,6 @@
 // The three profiles: each is a row of every table.
-ghost use Rattle.std.specs.Prelude.{◌≡◌, ◌<◌};
-ghost use Rattle.profiles.specs.Code.{tp_bytes, Chosen};
+ghost use Rattle.std.specs.Prelude.{◌≡◌};
+ghost use Rattle.profiles.specs.Code.{browser_number, tp_bytes, Chosen};
 ghost use Rattle.profiles.specs.Rows.{type_row, group_row, share_row, parameter_row};
 
 use crate::tables::{
@@ -9,65 +9,61 @@ use crate::tables::{
     RANDOMIZE_EXTENSIONS_ORDER, SCID_SOURCES, SHARE_COUNTS, SHARES, SUITE_COUNTS, TAPE_NEEDED,
     TP_BYTES, USE_EMPTY_SESSION_ID, VERSION_COUNTS, VERSIONS,
 };
-use crate::{ExtType, Group, Parameter, Profile};
+use crate::{Browser, ExtType, Group, Profile, TpEntry};
 
-// The rows of tables of structs, each by a function of its own: a table is walked entry by entry where it is proved, and the tables
-// together take many times as long as one by one.
-fn extension_types(browser: usize) -> [ExtType; 16]
-    requires { browser < 3 }
-    ensures { result ≡ type_row browser }
+// The rows of tables of structs, each by a function of its own and not by one over the type of the rows: a table is walked entry by entry
+// where its function is proved, and all tables in one function take many times as long.
+fn extension_types(browser: Browser) -> [ExtType; 16]
+    ensures { result ≡ type_row (browser_number browser) }
 {
-    EXTENSIONS_ORDER[browser]
+    EXTENSIONS_ORDER[browser.number()]
 }
 
-fn groups(browser: usize) -> [Group; 8]
-    requires { browser < 3 }
-    ensures { result ≡ group_row browser }
+fn groups(browser: Browser) -> [Group; 8]
+    ensures { result ≡ group_row (browser_number browser) }
 {
-    GROUPS[browser]
+    GROUPS[browser.number()]
 }
 
-fn key_share_groups(browser: usize) -> [Group; 4]
-    requires { browser < 3 }
-    ensures { result ≡ share_row browser }
+fn key_share_groups(browser: Browser) -> [Group; 4]
+    ensures { result ≡ share_row (browser_number browser) }
 {
-    SHARES[browser]
+    SHARES[browser.number()]
 }
 
-fn parameters(browser: usize) -> [Parameter; 16]
-    requires { browser < 3 }
-    ensures { result ≡ parameter_row browser }
+fn parameters(browser: Browser) -> [TpEntry; 16]
+    ensures { result ≡ parameter_row (browser_number browser) }
 {
-    PARAMETERS[browser]
+    PARAMETERS[browser.number()]
 }
 
-// The profile of a browser: 0 is Chrome, 1 Firefox, 2 curl. What makes a hello of it does not know the number any more.
-pub fn for_browser(browser: usize) -> Profile
-    requires { browser < 3 }
-    ensures { Chosen browser result }
+// The profile of a browser. What makes a hello of it does not know the browser any more.
+pub fn for_browser(browser: Browser) -> Profile
+    ensures { Chosen (browser_number browser) result }
 {
+    let row = browser.number();
     Profile {
-        cipher_suites: CIPHER_SUITES[browser],
-        suite_count: SUITE_COUNTS[browser],
+        cipher_suites: CIPHER_SUITES[row],
+        suite_count: SUITE_COUNTS[row],
         extensions_order: extension_types(browser),
-        extension_count: EXTENSION_COUNTS[browser],
+        extension_count: EXTENSION_COUNTS[row],
         supported_groups: groups(browser),
-        group_count: GROUP_COUNTS[browser],
-        signature_algorithms: ALGORITHMS[browser],
-        algorithm_count: ALGORITHM_COUNTS[browser],
-        supported_versions: VERSIONS[browser],
-        version_count: VERSION_COUNTS[browser],
+        group_count: GROUP_COUNTS[row],
+        signature_algorithms: ALGORITHMS[row],
+        algorithm_count: ALGORITHM_COUNTS[row],
+        supported_versions: VERSIONS[row],
+        version_count: VERSION_COUNTS[row],
         key_share_groups: key_share_groups(browser),
-        share_count: SHARE_COUNTS[browser],
-        alpn: PROTOCOLS[browser],
+        share_count: SHARE_COUNTS[row],
+        alpn: PROTOCOLS[row],
         quic_tp: parameters(browser),
-        parameter_count: PARAMETER_COUNTS[browser],
-        firefox_compression: FIREFOX_COMPRESSION[browser],
-        use_empty_session_id: USE_EMPTY_SESSION_ID[browser],
-        randomize_extensions_order: RANDOMIZE_EXTENSIONS_ORDER[browser],
-        tape_needed: TAPE_NEEDED[browser],
-        longest: LONGEST[browser],
-        scid_sources: SCID_SOURCES[browser],
+        parameter_count: PARAMETER_COUNTS[row],
+        firefox_compression: FIREFOX_COMPRESSION[row],
+        use_empty_session_id: USE_EMPTY_SESSION_ID[row],
+        randomize_extensions_order: RANDOMIZE_EXTENSIONS_ORDER[row],
+        tape_needed: TAPE_NEEDED[row],
+        longest: LONGEST[row],
+        scid_sources: SCID_SOURCES[row],
     }
 }
 

@@ -1,41 +1,63 @@
-// Browser profiles (profiles.rs): 0 is Chrome, 1 Firefox, 2 curl. The lists are constant tables, indexed by profile; a row that is
-// shorter than its table is filled up, and a count says where it ends. Document 01, "Profiles and maker".
+// Browser profiles (profiles.rs). The lists are constant tables, indexed by profile; a row that is shorter than its table is filled up,
+// and a count says where it ends. Document 01, "Profiles and maker".
 #![tactic(auto)]
 
-ghost use Rattle.std.specs.Prelude.{◌≡◌, eqb};
+ghost use Rattle.std.specs.Prelude.{◌≡◌, ◌<◌};
+ghost use Rattle.profiles.specs.Code.{browser_number, Chooses};
 
 pub mod built_in;
 pub mod ext;
 pub mod named_groups;
 pub mod tables;
 
+use wire::Refusal;
+
+// A built-in profile. Callers name it by a number, which is also its row in the tables: 0 is Chrome, 1 Firefox, 2 curl.
+#[derive(Clone, Copy, PartialEq, Eq, Debug)]
+pub enum Browser {
+    Chrome,
+    Firefox,
+    Curl,
+}
+
+impl Browser {
+    pub fn number(self) -> usize
+        ensures { (result ≡ browser_number self) × (result < 3) }
+    {
+        match self {
+            Browser::Chrome => 0,
+            Browser::Firefox => 1,
+            Browser::Curl => 2,
+        }
+    }
+}
+
+impl TryFrom<u64> for Browser {
+    type Error = Refusal;
+
+    ghost try_from_gives = { Chooses };
+
+    fn try_from(number: u64) -> Result<Self, Refusal> {
+        match number {
+            0 => Ok(Browser::Chrome),
+            1 => Ok(Browser::Firefox),
+            2 => Ok(Browser::Curl),
+            _ => Err(Refusal::UnknownProfile),
+        }
+    }
+}
+
 // 0x0017 is extended_master_secret among extension types and secp256r1 among groups: two types, so that the two never pass for one
 // another. The number is taken out where it is written to the wire, and nowhere else.
-#[derive(Clone, Copy)]
+#[derive(Clone, Copy, PartialEq, Eq, Debug)]
 pub struct ExtType(pub u16);
 
-#[derive(Clone, Copy)]
+#[derive(Clone, Copy, PartialEq, Eq, Debug)]
 pub struct Group(pub u16);
-
-impl ExtType {
-    pub fn is(self, other: ExtType) -> bool
-        ensures { result ≡ eqb self.0 other.0 }
-    {
-        self.0 == other.0
-    }
-}
-
-impl Group {
-    pub fn is(self, other: Group) -> bool
-        ensures { result ≡ eqb self.0 other.0 }
-    {
-        self.0 == other.0
-    }
-}
 
 // A QUIC transport parameter. A customer's profile has numbers, connection ids and GREASE; bytes and 0x11 only the built-in ones have.
 // The value of `Bytes(id, n)` is the first n bytes of the table of bytes.
-#[derive(Clone, Copy)]
+#[derive(Clone, Copy, PartialEq, Eq, Debug)]
 pub enum TpEntry {
     // fixed id with a number, written as a varint
     Varint(u64, u64),
@@ -49,13 +71,10 @@ pub enum TpEntry {
     Grease,
 }
 
-// A place of an array of parameters: an array of enums as a field would have to be proved by hand, an array of structs not.
-#[derive(Clone, Copy)]
-pub struct Parameter(pub TpEntry);
-
-// What a hello is made of. Each list is an array with its count, with room for what a customer may list (document 02, paper 10). The one
+// What a hello is made of. Each list is an array with its count, since no heap is used, with room for what a customer may list (document 02, paper 10). The one
 // protocol is its name. The last three are sums over the profile: the tape that it needs, the length of its longest hello with neither
 // name nor connection id, and how often the connection id stands in it.
+// Its fields are open, so that a profile is sound (`Sound`) is asked where one is used, and is no invariant of the type.
 #[derive(Clone, Copy)]
 pub struct Profile {
     pub cipher_suites: [u16; 16],
@@ -71,7 +90,7 @@ pub struct Profile {
     pub key_share_groups: [Group; 4],
     pub share_count: usize,
     pub alpn: [u8; 2],
-    pub quic_tp: [Parameter; 16],
+    pub quic_tp: [TpEntry; 16],
     pub parameter_count: usize,
     // zlib, zstd and brotli in compress_certificate, else brotli alone
     pub firefox_compression: bool,

@@ -1,5 +1,5 @@
 // The tables of profiles.rs, a row for each profile: Chrome, Firefox, curl. A row has room for what a customer may list; a count says
-// where it ends.
+// where it ends. The tables stand side by side by a rule of the project: tables are constants, indexed by profile.
 use crate::ext::{
     ALPN, APPLICATION_SETTINGS, COMPRESS_CERTIFICATE, DELEGATED_CREDENTIALS,
     ENCRYPTED_CLIENT_HELLO, EXTENDED_MASTER_SECRET, KEY_SHARE, PSK_KEY_EXCHANGE_MODES,
@@ -7,14 +7,14 @@ use crate::ext::{
     SIGNATURE_ALGORITHMS, STATUS_REQUEST, SUPPORTED_GROUPS, SUPPORTED_VERSIONS,
 };
 use crate::named_groups::{PQ_HYBRID_GROUP, SECP256R1, SECP384R1, SECP521R1, X25519};
-use crate::{ExtType, Group, Parameter, TpEntry};
+use crate::{ExtType, Group, TpEntry};
 
 // What stands past the end of a list of types, of groups, of parameters.
 const NO_TYPE: ExtType = ExtType(0);
 
 const NO_GROUP: Group = Group(0);
 
-const NONE: Parameter = Parameter(TpEntry::Varint(0, 0));
+const NONE: TpEntry = TpEntry::Varint(0, 0);
 
 pub const CIPHER_SUITES: [[u16; 16]; 3] = [
     [
@@ -147,55 +147,55 @@ pub const SHARE_COUNTS: [usize; 3] = [2, 3, 1];
 // "h3"
 pub const PROTOCOLS: [[u8; 2]; 3] = [[0x68, 0x33], [0x68, 0x33], [0x68, 0x33]];
 
-const CHROME_PARAMETERS: [Parameter; 16] = [
-    Parameter(TpEntry::Varint(0x04, 15728640)),
-    Parameter(TpEntry::Bytes(0x0f, 0)),
-    Parameter(TpEntry::Varint(0x07, 6291456)),
-    Parameter(TpEntry::Varint(0x05, 6291456)),
-    Parameter(TpEntry::Varint(0x03, 1472)),
-    Parameter(TpEntry::Varint(0x06, 6291456)),
-    Parameter(TpEntry::Varint(0x08, 100)),
-    Parameter(TpEntry::Varint(0x3127, 18196)),
-    Parameter(TpEntry::Varint(0x20, 65536)),
-    Parameter(TpEntry::VersionInfo(0x11)),
-    Parameter(TpEntry::Varint(0x01, 30000)),
-    Parameter(TpEntry::Varint(0x09, 103)),
-    Parameter(TpEntry::Grease),
+const CHROME_PARAMETERS: [TpEntry; 16] = [
+    TpEntry::Varint(0x04, 15728640),
+    TpEntry::Bytes(0x0f, 0),
+    TpEntry::Varint(0x07, 6291456),
+    TpEntry::Varint(0x05, 6291456),
+    TpEntry::Varint(0x03, 1472),
+    TpEntry::Varint(0x06, 6291456),
+    TpEntry::Varint(0x08, 100),
+    TpEntry::Varint(0x3127, 18196),
+    TpEntry::Varint(0x20, 65536),
+    TpEntry::VersionInfo(0x11),
+    TpEntry::Varint(0x01, 30000),
+    TpEntry::Varint(0x09, 103),
+    TpEntry::Grease,
     NONE,
     NONE,
     NONE,
 ];
 
-const FIREFOX_PARAMETERS: [Parameter; 16] = [
-    Parameter(TpEntry::Varint(0x01, 30000)),
-    Parameter(TpEntry::Varint(0x04, 25165824)),
-    Parameter(TpEntry::Varint(0x05, 12582912)),
-    Parameter(TpEntry::Varint(0x06, 1048576)),
-    Parameter(TpEntry::Varint(0x07, 1048576)),
-    Parameter(TpEntry::Varint(0x08, 100)),
-    Parameter(TpEntry::Varint(0x09, 100)),
-    Parameter(TpEntry::Varint(0x0b, 20)),
-    Parameter(TpEntry::Varint(0x0e, 8)),
-    Parameter(TpEntry::ScidSource(0x0f)),
-    Parameter(TpEntry::VersionInfo(0x11)),
-    Parameter(TpEntry::Bytes(0xff02de1a, 2)),
-    Parameter(TpEntry::Varint(0x20, 65535)),
+const FIREFOX_PARAMETERS: [TpEntry; 16] = [
+    TpEntry::Varint(0x01, 30000),
+    TpEntry::Varint(0x04, 25165824),
+    TpEntry::Varint(0x05, 12582912),
+    TpEntry::Varint(0x06, 1048576),
+    TpEntry::Varint(0x07, 1048576),
+    TpEntry::Varint(0x08, 100),
+    TpEntry::Varint(0x09, 100),
+    TpEntry::Varint(0x0b, 20),
+    TpEntry::Varint(0x0e, 8),
+    TpEntry::ScidSource(0x0f),
+    TpEntry::VersionInfo(0x11),
+    TpEntry::Bytes(0xff02de1a, 2),
+    TpEntry::Varint(0x20, 65535),
     NONE,
     NONE,
     NONE,
 ];
 
-const CURL_PARAMETERS: [Parameter; 16] = [
-    Parameter(TpEntry::Varint(0x01, 30000)),
-    Parameter(TpEntry::Varint(0x03, 1472)),
-    Parameter(TpEntry::Varint(0x04, 10485760)),
-    Parameter(TpEntry::Varint(0x05, 5242880)),
-    Parameter(TpEntry::Varint(0x06, 5242880)),
-    Parameter(TpEntry::Varint(0x07, 5242880)),
-    Parameter(TpEntry::Varint(0x08, 100)),
-    Parameter(TpEntry::Varint(0x09, 100)),
-    Parameter(TpEntry::Varint(0x0e, 2)),
-    Parameter(TpEntry::Bytes(0x0f, 0)),
+const CURL_PARAMETERS: [TpEntry; 16] = [
+    TpEntry::Varint(0x01, 30000),
+    TpEntry::Varint(0x03, 1472),
+    TpEntry::Varint(0x04, 10485760),
+    TpEntry::Varint(0x05, 5242880),
+    TpEntry::Varint(0x06, 5242880),
+    TpEntry::Varint(0x07, 5242880),
+    TpEntry::Varint(0x08, 100),
+    TpEntry::Varint(0x09, 100),
+    TpEntry::Varint(0x0e, 2),
+    TpEntry::Bytes(0x0f, 0),
     NONE,
     NONE,
     NONE,
@@ -204,11 +204,7 @@ const CURL_PARAMETERS: [Parameter; 16] = [
     NONE,
 ];
 
-pub const PARAMETERS: [[Parameter; 16]; 3] = [
-    CHROME_PARAMETERS,
-    FIREFOX_PARAMETERS,
-    CURL_PARAMETERS,
-];
+pub const PARAMETERS: [[TpEntry; 16]; 3] = [CHROME_PARAMETERS, FIREFOX_PARAMETERS, CURL_PARAMETERS];
 
 pub const PARAMETER_COUNTS: [usize; 3] = [13, 13, 10];
 

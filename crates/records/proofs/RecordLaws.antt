@@ -12,8 +12,10 @@ use Rattle.wire.specs.Numbers.{digits, number}
 use Rattle.wire.proofs.NumberLaws.{above, length_digits, number_digits}
 use Rattle.wire.proofs.ListLaws.{length_part}
 use Rattle.records.specs.Records.{Found, record-to, end, length_at, record_at, record_of, Finds, blob_of, Short, Gives}
-use Rattle.records.specs.declared.Next.{Next}
-use Rattle.records.specs.declared.Next.TheVariants as next
+use Rattle.std.specs.Prelude.{Result, Ok, Err, Some, None}
+use Rattle.std.specs.Prelude as std
+use Rattle.wire.specs.Refusals.{question}
+use Rattle.wire.specs.declared.refusals.Refusal.{Refusal}
 use Rattle.records.proofs.Promises.{finds-end, finds-record, part_of}
 
 -- ---- one place
@@ -26,10 +28,10 @@ pub record Stands (blob : List ℕ) (at : ℕ) (part : List ℕ) (after : ℕ) :
   pub bytes : drop at blob ≡ take 2 (drop at blob) ++ part ++ drop after blob
 
 -- what the answer of `next_record` says of the part that `split_records` hands back
-abbrev pub Tied : List ℕ → ℕ → List ℕ → Next → Type 0
-Tied blob at part (next.Record after) = Stands blob at part after
-Tied blob at part next.End = part ≡ []
-Tied blob at part (next.Refused n) = (n ≡ 27) × (part ≡ [])
+abbrev pub Tied : List ℕ → ℕ → List ℕ → Result (std.Option ℕ) Refusal → Type 0
+Tied blob at part (Ok (Some after)) = Stands blob at part after
+Tied blob at part (Ok None) = part ≡ []
+Tied blob at part (Err e) = (question e ≡ 27) × (part ≡ [])
 
 -- an answer whose record ends at a place, and whose refusal is 27
 abbrev EndsAt : ℕ → Answer Found → Type 0
@@ -65,20 +67,20 @@ module _ (blob : List ℕ) (at : ℕ) where
       }
 
   -- THE TWO CALLS AGREE, for any answer of the one and any part of the other that keep their promises
-  pub tied : (part : List ℕ) (r : Next) → Finds blob at r → part ≡ record_of blob at → Tied blob at part r
-  tied part (next.Record after) f p =
+  pub tied : (part : List ℕ) (r : Result (std.Option ℕ) Refusal) → Finds blob at r → part ≡ record_of blob at → Tied blob at part r
+  tied part (Ok (Some after)) f p =
       let e : after ≡ at + 2 + length_at blob at = rw (← f.is) at record-ends in
-      rw (p ∙ sym (part_of blob at (next.Record after) f)) (stands after e f.bounds.0 f.bounds.1)
-  tied part next.End f p = p ∙ sym (part_of blob at next.End f)
-  tied part (next.Refused n) f p = (rw (← f.is) at record-ends, p ∙ sym (part_of blob at (next.Refused n) f))
+      rw (p ∙ sym (part_of blob at (Ok (Some after)) f)) (stands after e f.bounds.0 f.bounds.1)
+  tied part (Ok None) f p = p ∙ sym (part_of blob at (Ok None) f)
+  tied part (Err e) f p = (rw (← f.is) at record-ends, p ∙ sym (part_of blob at (Err e) f))
 
 -- ---- a whole blob
 
 module _ (blob : List ℕ) (at : ℕ) (inside : at ≤ length blob) where
   gives-end : length (drop at blob) < 2 → Gives blob at []
   gives-end h =
-      let f : Finds blob at next.End = finds-end blob at inside (rw length-drop at h) in
-      (sym f.is, sym (part_of blob at next.End f))
+      let f : Finds blob at (Ok None) = finds-end blob at inside (rw length-drop at h) in
+      (sym f.is, sym (part_of blob at (Ok None) f))
 
   module _ (r rest : List ℕ) (e : drop at blob ≡ digits 256 2 (length r) ++ r ++ rest) where
     two : length (digits 256 2 (length r)) ≡ 2
@@ -98,7 +100,7 @@ module _ (blob : List ℕ) (at : ℕ) (inside : at ≤ length blob) where
     after-inside : at + 2 + length r ≤ length blob
     after-inside = omega (arith, left)
 
-    found : length r < 65536 → Finds blob at (next.Record (at + 2 + length r))
+    found : length r < 65536 → Finds blob at (Ok (Some (at + 2 + length r)))
     unfolding length_at above
     found h =
         let front : take 2 (drop at blob) ≡ digits 256 2 (length r) = rw (e, append_assoc) (take_at (digits 256 2 (length r)) (r ++ rest) 2 two) in
@@ -108,7 +110,7 @@ module _ (blob : List ℕ) (at : ℕ) (inside : at ≤ length blob) where
     part : length r < 65536 → record_of blob at ≡ r
     part h =
         let n : at + 2 + length r - (at + 2) ≡ length r = omega arith in
-        sym (part_of blob at (next.Record (at + 2 + length r)) (found h)) ∙ rw (n, from-part) (take_at r rest (length r) refl)
+        sym (part_of blob at (Ok (Some (at + 2 + length r))) (found h)) ∙ rw (n, from-part) (take_at r rest (length r) refl)
 
 -- records from a place on, then fewer than 2 bytes
 gives : (rs : List (List ℕ)) (blob tail : List ℕ) (at : ℕ) → at ≤ length blob → Short rs → length tail < 2 → drop at blob ≡ blob_of rs ++ tail → Gives blob at rs

@@ -1,10 +1,12 @@
 -- Records of a blob: two bytes of length, then so many bytes (`split_records` of fingerprint.rs; document 01, "Around them" and
 -- question 27).
 use Rattle.std.specs.Prelude.{ℕ, ◌+◌, ◌-◌, ◌≤◌, ◌<◌, ◌≡◌, cond, List, [], ◌∷◌, ◌++◌, length, take, drop, leb, ltb}
-use Rattle.wire.specs.Answer.{Answer, result, refused, ask, IsNumber}
+use Rattle.std.specs.Prelude.{Result, Ok, Err, Some, None, IfOk, IfSome}
+use Rattle.std.specs.Prelude as std
+use Rattle.wire.specs.Answer.{Answer, result, refused, ask}
+use Rattle.wire.specs.Refusals.{question}
+use Rattle.wire.specs.declared.refusals.Refusal.{Refusal}
 use Rattle.wire.specs.Numbers.{digits, number}
-use Rattle.records.specs.declared.Next.{Next}
-use Rattle.records.specs.declared.Next.TheVariants as next
 
 -- "a record and the place after it", or the end
 pub data Found : Type 0 where
@@ -51,16 +53,11 @@ Gives blob at (r ∷ rs) = (record_at blob at ≡ result (record-to (at + 2 + le
 
 -- ---- What the answer of the code says, and its promise
 
-abbrev pub found_of : Next → Answer Found
-found_of (next.Record after) = result (record-to after)
-found_of next.End = result end
-found_of (next.Refused n) = refused n
+abbrev pub found_of : Result (std.Option ℕ) Refusal → Answer Found
+found_of (Ok (Some after)) = result (record-to after)
+found_of (Ok None) = result end
+found_of (Err e) = refused (question e)
 
-abbrev pub NextBounds : ℕ → ℕ → Next → Type 0
-NextBounds at n (next.Record after) = (at + 2 ≤ after) × (after ≤ n)
-NextBounds at n next.End = Unit {0}
-NextBounds at n (next.Refused k) = IsNumber k
-
-pub record Finds (blob : List ℕ) (at : ℕ) (r : Next) : Type 0 where
+pub record Finds (blob : List ℕ) (at : ℕ) (r : Result (std.Option ℕ) Refusal) : Type 0 where
   pub is : found_of r ≡ record_at blob at
-  pub bounds : NextBounds at (length blob) r
+  pub bounds : IfOk r (λ found. IfSome found (λ after. (at + 2 ≤ after) × (after ≤ length blob)))

@@ -1,4 +1,5 @@
 -- What holds of a registry, and the tests that each of the six tables passes. Assumes nothing.
+use Rattle.std.specs.Prelude.{Option, Some, None, position}
 use Prim.Native.Nat.{ℕ, zero, suc, ◌+◌, ◌-◌, ◌≤◌, ◌<◌}
 use mathlib.Core.Path.{◌≡◌, refl, sym, ap}
 use mathlib.Core.Bool.{Bool, true, false, not, cond, true≢false}
@@ -7,19 +8,28 @@ use native.Mathlib.Nat.{le_of_suc-le-suc, not-suc-le-zero}
 use native.Mathlib.Decide.{ℕ_discrete}
 use native.Mathlib.Omega.{arith}
 use lib.ListN.{length, get_or}
-use lib.Dec.{ltb}
+use lib.Dec.{ltb, eqb}
 use borrow.Author.Tests.{ltb-true, lt-ltb, le-ltb, eq-eqb, ne_eqb}
 use Rattle.wire.specs.Sums.{any, member}
 use Rattle.wire.proofs.SumLaws.{and_left, and_right, member-nil}
 use Rattle.script.specs.Scan.{space, distance, find_of}
 use Rattle.script.specs.Words.{word_from, word_of, is_there, has_operands}
 use Rattle.script.specs.declared.words.Word.{Word}
-use Rattle.script.specs.declared.words.Word.TheVariants as the_word
+use Rattle.script.proofs.ScanLaws.{position-some, position-none}
 use Rattle.registries.specs.Registry.{texts, word, place_of, spare_words, name_in, rises, is_table}
 use Rattle.registries.specs.Tables.{suites, suite_names, groups, group_names, algorithms, algorithm_names, types, type_names}
 use Rattle.registries.specs.Tables.{versions, version_names, parameters, parameter_names}
 
 -- ---- a name, by the number's place
+
+-- where the library finds the number, and where it finds none
+pub place-some : (v : ℕ) (numbers : List ℕ) (k : ℕ) → Some k ≡ position (λ n. eqb n v) numbers → (k ≡ place_of v numbers) × (k < length numbers)
+unfolding place_of
+place-some v numbers k e = position-some v numbers k e
+
+pub place-none : (v : ℕ) (numbers : List ℕ) → ◌≡◌ {A = Option ℕ} None (position (λ n. eqb n v) numbers) → length numbers ≡ place_of v numbers
+unfolding place_of
+place-none v numbers e = position-none v numbers e
 
 module _ (numbers names : List ℕ) (spare v k : ℕ) (place : k ≡ place_of v numbers) where
   pub name-there : k < length numbers → name_in numbers names spare v ≡ word names k
@@ -102,8 +112,8 @@ there-before line (suc k) at h =
     next : ℕ
     next = find_of line at space + 1
 
-    go : (a b : Word) → (is_there a ≡ true → is_there b ≡ true) → (t : Bool) → is_there (cond t a the_word.Missing) ≡ true
-        → is_there (cond t b the_word.Missing) ≡ true
+    go : (a b : Option Word) → (is_there a ≡ true → is_there b ≡ true) → (t : Bool) → is_there (cond t a None) ≡ true
+        → is_there (cond t b None) ≡ true
     go a b ih true h = ih h
     go a b ih false h = h
 

@@ -5,35 +5,26 @@
 pub mod suites;
 pub mod tables;
 
-ghost use Rattle.std.specs.Prelude.{◌≡◌, ◌≤◌, length};
+ghost use Rattle.std.specs.Prelude.{◌≡◌, ◌==◌, position};
 ghost use Rattle.script_writing.specs.Shown.{Written};
-ghost use Rattle.registries.specs.Registry.{place_of, name_in};
+ghost use Rattle.registries.specs.Registry.{name_in};
 
 use script::words::word_at;
 use script_writing::texts::put_text;
 
-// The place of a number in a table; the table's length where it is not there.
-pub fn place_of(numbers: &[u64], v: u64) -> usize
-    ensures { (result ≡ place_of v numbers.now) × (result ≤ length numbers.now) }
+// The place of a number in a table.
+pub fn place_of(numbers: &[u64], v: u64) -> Option<usize>
+    ensures { result ≡ position (λ n. n == v) numbers.now }
 {
-    let mut i: usize = 0;
-    while i < numbers.len() {
-        if numbers[i] == v {
-            return i;
-        }
-        i = i + 1;
-    }
-    i
+    numbers.iter().position(|n| *n == v)
 }
 
 // Writes the name of a number, or the spare word.
 fn put_in(out: &mut [u8], numbers: &[u64], names: &[u8], spare: usize, v: u64) -> usize
     ensures { Written (name_in numbers.now names.now spare v) result out.old out.new }
 {
-    let k = place_of(numbers, v);
-    if k < numbers.len() {
-        put_text(out, word_at(names, k))
-    } else {
-        put_text(out, word_at(b"unknown GREASE", spare))
+    match place_of(numbers, v) {
+        Some(k) => put_text(out, word_at(names, k)),
+        None => put_text(out, word_at(b"unknown GREASE", spare)),
     }
 }

@@ -1,7 +1,7 @@
 -- Loops that write a label and then the parts of each element of a list. Assumes nothing.
 use Prim.Native.Nat.{ℕ, ◌+◌, ◌-◌, ◌≤◌, ◌<◌, zero-le}
 use mathlib.Core.Path.{◌≡◌, refl, sym, ap, ◌∙◌}
-use mathlib.Core.List.{List, [], ◌∷◌, ◌++◌, map, append_assoc, append-nil, map-append}
+use mathlib.Core.List.{List, [], ◌∷◌, ◌++◌, map, append_assoc, append-nil, map-append, map-map}
 use native.Mathlib.Numerals.{add-one}
 use native.Mathlib.Omega.{arith}
 use lib.ListN.{length, take, drop, get_or, length-drop}
@@ -61,9 +61,11 @@ module _ {A : Type 0} (items : List A) (i : ℕ) (d : A) (h : i < length items) 
   pub map_next : {B : Type 0} (f : A → B) → map f (take i items) ++ (f (get_or items i d) ∷ []) ≡ map f (take (i + 1) items)
   map_next f = sym (map-append f (take i items) (get_or items i d ∷ [])) ∙ ap (map f) take_next
 
-  -- a part for each, by its number
-  pub numbers-next : (f : ℕ → List ℕ) (g : A → ℕ) → map f (map g (take i items)) ++ (f (g (get_or items i d)) ∷ []) ≡ map f (map g (take (i + 1) items))
-  numbers-next f g = sym (map-append f (map g (take i items)) (g (get_or items i d) ∷ [])) ∙ ap (map f) (map_next g)
+-- a part for each, by its number
+pub by-number : {A : Type 0} (label : List ℕ) (text : ℕ → List ℕ) (number : A → ℕ) (xs : List A) {n : ℕ} {old new : List ℕ}
+    → WrittenAll (label ∷ map (λ x. text (number x)) xs) n old new → WrittenAll (label ∷ map text (map number xs)) n old new
+by-number label text number xs {n} {old} {new} w =
+    all-as _ _ n old new (ap (λ (ts : List (List ℕ)). label ∷ ts) (sym (map-map text number xs))) w
 
 each_append : {A : Type 0} (f : A → List (List ℕ)) (xs ys : List A) → each f (xs ++ ys) ≡ each f xs ++ each f ys
 unfolding each

@@ -34,9 +34,9 @@ sni-shown h (some p) s = span-shown h p s
 
 -- ---- the report
 
-pub parts-shown : (h : List ℕ) (n : ℕ) (r : Report) → InRange h r → report_parts h (shown n r) ≡ report_text r
+pub parts-shown : (h : List ℕ) (r : Report) → InRange h r → report_parts h (shown r) ≡ report_text r
 unfolding report_parts report_text shown
-parts-shown h n r i =
+parts-shown h r i =
     rw (words-shown r.cipher_suites, types-shown r.extensions, groups-shown r.supported_groups, groups-shown r.key_share_groups, words-shown r.signature_algorithms, words-shown r.supported_versions, protocols-shown h r.alpn i.protocols-lie, sni-shown h r.sni i.sni-lies, words-shown r.transport_param_ids)
 
 -- ---- a set of types

@@ -1,21 +1,19 @@
 -- What is written of the report as the code hands it out: arrays with counts, and names as parts of the hello.
-use Rattle.std.specs.Prelude.{ℕ, ◌+◌, List, [], ◌∷◌, ◌++◌, map, take, drop}
+use Rattle.std.specs.Prelude.{ℕ, ◌+◌, List, [], ◌∷◌, ◌++◌, map, take, drop, Option, Some, None}
 use Rattle.script_writing.specs.Hex.{word_text, id_text}
 use Rattle.fingerprint_lists.specs.declared.Span.{Span}
 use Rattle.fingerprint_lists.specs.declared.Types.{Types}
 use Rattle.fingerprint.specs.InRange.{type_numbers, group_numbers}
 use Rattle.fingerprint.specs.declared.Fingerprint.{Fingerprint}
-use Rattle.fingerprint.specs.declared.Sni.{Sni}
-use Rattle.fingerprint.specs.declared.Sni.TheVariants.{At, Absent}
 use Rattle.reports.specs.Lines.{suites_label, extensions_label, groups_label, shares_label, algorithms_label, versions_label, name_label, parameters_label, none_word, range_parts, each, first_lines, list_lines, last_lines, set_text}
 
 -- a part of the hello: its range, and the name that it holds
 abbrev pub span_parts : List ℕ → Span → List (List ℕ)
 span_parts h s = range_parts s.start (s.start + s.length) (take s.length (drop s.start h))
 
-abbrev pub sni_parts : List ℕ → Sni → List (List ℕ)
-sni_parts h (At s) = span_parts h s
-sni_parts h Absent = none_word ∷ []
+abbrev pub sni_parts : List ℕ → Option Span → List (List ℕ)
+sni_parts h (Some s) = span_parts h s
+sni_parts h None = none_word ∷ []
 
 abbrev pub type_parts : Fingerprint → List (List ℕ)
 type_parts f =

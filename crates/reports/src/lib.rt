@@ -13,7 +13,7 @@ ghost use Rattle.fingerprint.specs.InRange.{Filled, Counts, Sane};
 
 use fingerprint::Fingerprint;
 use fingerprint_lists::Types;
-use lists::{put_groups, put_ids, put_types, put_words};
+use lists::put_list;
 use names::{put_protocols, put_sni};
 use script_writing::names::put_name;
 use script_writing::texts::{put_number, put_text};
@@ -23,14 +23,15 @@ fn put_type_lines(out: &mut [u8], report: Fingerprint) -> usize
     requires { Counts report }
     ensures { WrittenAll (type_parts report) result out.old out.new }
 {
-    let suites = report.cipher_suites;
-    let n = put_words(out, b"\n  cipher-suites", &suites, report.suite_count);
-    let types = report.extensions;
-    n + put_types(
+    let n = put_list(
+        out,
+        b"\n  cipher-suites",
+        &report.cipher_suites[..report.suite_count],
+    );
+    n + put_list(
         &mut out[n..],
         b"\n  extensions",
-        types,
-        report.extension_count,
+        &report.extensions[..report.extension_count],
     )
 }
 
@@ -52,14 +53,15 @@ fn put_group_lines(out: &mut [u8], report: Fingerprint) -> usize
     requires { Counts report }
     ensures { WrittenAll (group_parts report) result out.old out.new }
 {
-    let groups = report.supported_groups;
-    let n = put_groups(out, b"\n  supported-groups", groups, report.group_count);
-    let shares = report.key_share_groups;
-    n + put_groups(
+    let n = put_list(
+        out,
+        b"\n  supported-groups",
+        &report.supported_groups[..report.group_count],
+    );
+    n + put_list(
         &mut out[n..],
         b"\n  key-share-groups",
-        shares,
-        report.share_count,
+        &report.key_share_groups[..report.share_count],
     )
 }
 
@@ -68,19 +70,15 @@ fn put_algorithm_lines(out: &mut [u8], report: Fingerprint) -> usize
     requires { Counts report }
     ensures { WrittenAll (algorithm_parts report) result out.old out.new }
 {
-    let algorithms = report.signature_algorithms;
-    let n = put_words(
+    let n = put_list(
         out,
         b"\n  signature-algorithms",
-        &algorithms,
-        report.algorithm_count,
+        &report.signature_algorithms[..report.algorithm_count],
     );
-    let versions = report.supported_versions;
-    n + put_words(
+    n + put_list(
         &mut out[n..],
         b"\n  supported-versions",
-        &versions,
-        report.version_count,
+        &report.supported_versions[..report.version_count],
     )
 }
 
@@ -98,14 +96,11 @@ fn put_parameter_lines(out: &mut [u8], hello: &[u8], report: Fingerprint) -> usi
     requires { Sane hello.now report }
     ensures { WrittenAll (parameter_parts hello.now report) result out.old out.new }
 {
-    let sni = report.sni;
-    let n = put_sni(out, hello, sni);
-    let ids = report.transport_param_ids;
-    n + put_ids(
+    let n = put_sni(out, hello, report.sni);
+    n + put_list(
         &mut out[n..],
         b"\n  transport-parameters",
-        &ids,
-        report.id_count,
+        &report.transport_param_ids[..report.id_count],
     )
 }
 
@@ -114,8 +109,7 @@ fn put_last_lines(out: &mut [u8], hello: &[u8], report: Fingerprint) -> usize
     requires { Sane hello.now report }
     ensures { WrittenAll (last_parts hello.now report) result out.old out.new }
 {
-    let spans = report.alpn;
-    let n = put_protocols(out, hello, spans, report.alpn_count);
+    let n = put_protocols(out, hello, report.alpn, report.alpn_count);
     n + put_parameter_lines(&mut out[n..], hello, report)
 }
 
@@ -134,8 +128,7 @@ pub fn put_set(out: &mut [u8], types: Types) -> usize
     requires { Filled 64 types.items types.count }
     ensures { WrittenAll (set_parts types) result out.old out.new }
 {
-    let items = types.items;
-    put_types(out, b"types", items, types.count)
+    put_list(out, b"types", &types.items[..types.count])
 }
 
 // Writes the answer of `name`.

@@ -7,7 +7,6 @@ ghost use Rattle.reports.specs.Lines.{each, alpn_label, name_label};
 ghost use Rattle.reports.specs.Code.{span_parts, sni_parts};
 ghost use Rattle.fingerprint.specs.InRange.{Filled, Inside, SpansInside, SniInside};
 
-use fingerprint::Sni;
 use fingerprint_lists::Span;
 use script_writing::names::put_name;
 use script_writing::texts::{put_text, put_two_numbers};
@@ -37,23 +36,20 @@ pub fn put_protocols(out: &mut [u8], hello: &[u8], spans: [Span; 16], count: usi
     ensures { WrittenAll (alpn_label ∷ each (span_parts hello.now) (take count spans)) result out.old out.new }
 {
     let mut at = put_text(out, b"\n  alpn");
-    let mut i: usize = 0;
-    while i < count {
-        let span = spans[i];
-        at += put_range(&mut out[at..], hello, span);
-        i += 1;
+    for i in 0..count {
+        at += put_range(&mut out[at..], hello, spans[i]);
     }
     at
 }
 
 // Writes the server's name with its range, or that there is none.
-pub fn put_sni(out: &mut [u8], hello: &[u8], sni: Sni) -> usize
+pub fn put_sni(out: &mut [u8], hello: &[u8], sni: Option<Span>) -> usize
     requires { SniInside hello.now sni }
     ensures { WrittenAll (name_label ∷ sni_parts hello.now sni) result out.old out.new }
 {
     let n = put_text(out, b"\n  name");
     match sni {
-        Sni::At(span) => n + put_range(&mut out[n..], hello, span),
-        Sni::Absent => n + put_text(&mut out[n..], b" none"),
+        Some(span) => n + put_range(&mut out[n..], hello, span),
+        None => n + put_text(&mut out[n..], b" none"),
     }
 }

@@ -4,15 +4,13 @@
 #![tactic(auto)]
 
 pub mod failures;
-mod notes;
 
 ghost use Rattle.std.specs.Prelude.{◌≡◌, ◌≤◌, length, IfOk};
-ghost use Rattle.answers.specs.Said.{said_count, handed_count};
+ghost use Rattle.answers.specs.Said.{said_count};
 ghost use Rattle.runner.specs.Bounds.{Turned};
 
 use answers::{Fault, Said};
 use failures::fail;
-use script::input;
 use script::input::Input;
 use script_writing::texts::{put_number, put_text};
 use std::io;
@@ -76,8 +74,7 @@ pub struct Standing {
     pub kept: usize,
 }
 
-// A proved loop has to end, and nothing says that a script does. So the loop counts its turns down, from a number that no run
-// uses up.
+// A proved loop has to end, and nothing says that a script does. So the loop has a count of turns that no run uses up.
 fn answer_all(
     rt: &(impl Files + Print + Eprint),
     script: &mut impl Read,
@@ -87,18 +84,15 @@ fn answer_all(
     last: &mut [u8],
     out: &mut [u8],
 ) -> io::Result<()> {
-    let mut turns = u64::MAX;
     let mut t = Standing {
-        input: input::start(),
+        input: Input::start(),
         kept: 0,
     };
-    while 0 < turns {
+    for _ in 0..u64::MAX {
         t = turn(rt, script, notes, chunk, line, last, out, t)?;
-        let s = t.input;
-        if s.over {
+        if t.input.over {
             break;
         }
-        turns -= 1;
     }
     Ok(())
 }
@@ -111,7 +105,7 @@ fn fill(rt: &impl Eprint, script: &mut impl Read, chunk: &mut [u8], s: Input) ->
     if s.start < s.end {
         return s;
     }
-    input::fill(s, read_some(rt, script, chunk))
+    s.fill(read_some(rt, script, chunk))
 }
 
 // How many bytes one read put at the chunk's front. What cannot be read, as a folder, ends like an empty script, and standard error
@@ -143,7 +137,7 @@ fn turn(
     ensures { IfOk result (λ r. Turned (length chunk.old) (length line.old) (length last.old) r) }
 {
     let filled = fill(rt, script, chunk, t.input);
-    let taken = input::take(chunk, line, filled);
+    let taken = filled.take(chunk, line);
     if taken.whole {
         let n = taken.length;
         let kept = answer(
@@ -157,7 +151,7 @@ fn turn(
             out,
         )?;
         return Ok(Standing {
-            input: input::next_line(taken),
+            input: taken.next_line(),
             kept,
         });
     }
@@ -181,10 +175,7 @@ fn answer(
     requires { kept ≤ length last.old }
     ensures { IfOk result (λ k. k ≤ length last.old) }
 {
-    if line.len() == 0 {
-        return Ok(kept);
-    }
-    if line[0] == b'#' {
+    if line.is_empty() || line[0] == b'#' {
         return Ok(kept);
     }
     if long {
@@ -210,49 +201,31 @@ fn answer_command(
 {
     let mut handed = last_room();
     let said = commands::command(rt, line, &last[0..kept], &mut handed, out);
-    let k = handed_length(said);
     tell(rt, said, number, notes, out)?;
-    if let Said::Handed(_, _) = said {
-        return Ok(put_text(last, &handed[0..k]));
+    if let Ok(Said::Handed(_, k)) = said {
+        return Ok(put_text(last, &handed[..k]));
     }
     Ok(kept)
 }
 
-// How many bytes an answer hands back.
-fn handed_length(said: Said) -> usize
-    ensures { result ≡ handed_count said }
-{
-    match said {
-        Said::Answer(_) => 0,
-        Said::Handed(_, k) => k,
-        Said::Refused(_, _) => 0,
-        Said::Error(_) => 0,
-    }
-}
-
-// How many bytes of text an answer has.
-fn text_length(said: Said) -> usize
-    ensures { result ≡ said_count said }
-{
-    match said {
-        Said::Answer(n) => n,
-        Said::Handed(n, _) => n,
-        Said::Refused(n, _) => n,
-        Said::Error(_) => 0,
-    }
-}
-
 // Writes what a line is answered.
-fn tell(rt: &impl Print, said: Said, number: u64, notes: bool, out: &mut [u8]) -> io::Result<()>
-    requires { said_count said ≤ length out.old }
+fn tell(
+    rt: &impl Print,
+    said: Result<Said, Fault>,
+    number: u64,
+    notes: bool,
+    out: &mut [u8],
+) -> io::Result<()>
+    requires { IfOk said (λ s. said_count s ≤ length out.old) }
 {
-    if let Said::Error(fault) = said {
-        return error(rt, number, fault, notes, out);
-    }
-    say(rt, out, text_length(said))?;
+    let said = match said {
+        Ok(said) => said,
+        Err(fault) => return error(rt, number, fault, notes, out),
+    };
+    say(rt, out, said.text())?;
     if let Said::Refused(_, refusal) = said {
         if notes {
-            return notes::explain_refusal(rt, refusal);
+            println!(rt; "# {}: {refusal}", refusal.number())?;
         }
     }
     Ok(())
@@ -263,9 +236,10 @@ fn say(rt: &impl Print, out: &mut [u8], n: usize) -> io::Result<()>
     requires { n ≤ length out.old }
 {
     let end = n + put_text(&mut out[n..], b"\n");
-    rt.write_all(&out[0..end])
+    rt.write_all(&out[..end])
 }
 
+// Says that a line is an error; notes, which begin with `#`, are for people.
 fn error(
     rt: &impl Print,
     number: u64,
@@ -276,7 +250,7 @@ fn error(
     let n = put_number(out, b"error ", number);
     say(rt, out, n)?;
     if notes {
-        return notes::explain_fault(rt, fault);
+        println!(rt; "# {fault}")?;
     }
     Ok(())
 }

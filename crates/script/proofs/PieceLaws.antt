@@ -1,4 +1,5 @@
 -- Pieces: where they end, what each kind stands for, and the answers. Assumes nothing.
+use Rattle.std.specs.Prelude.{Some, None, Result, Ok, Err}
 use Rattle.std.proofs.Common.{◌≡◌, ℕ, suc, ◌+◌, ◌-◌, ◌%◌, ◌<◌, ◌≤◌, min, true, false, cond, ◌&&◌, eqb, ltb, List, [], ◌∷◌, length, get_or, take, drop, replicate, refl, ap, subst, zero-le, le_refl, add-one, arith, length-drop, drop_of_length-le, drop-cons, le-ltb, lt-ltb, eq-eqb, ne_eqb, le-leb}
 use borrow.Author.Tests.{lt-leb}
 use Rattle.wire.specs.Front.{front}
@@ -6,10 +7,11 @@ use Rattle.script.specs.Scan.{all, is_only, begins, distance, quote, star, plus,
 use Rattle.script.specs.Decimal.{number_of}
 use Rattle.script.specs.Hex.{is_hex, hex_byte, pairs}
 use Rattle.script.specs.Piece.{piece_length, piece_end, Meaning, bytes, file, malformed, is_plain, inner, text_of, hex_of, times_of, run_of, piece_of, answer_of, output_of, Read}
-use Rattle.script.specs.declared.reading.Number.TheVariants as the
+use Rattle.script.specs.declared.reading.NoPiece.{NoPiece}
+use Rattle.script.specs.declared.reading.NoPiece.TheVariants as no
 use Rattle.script.specs.declared.reading.Piece.{Piece}
 use Rattle.script.specs.declared.reading.Piece.TheVariants as piece
-use Rattle.script.proofs.ScanLaws.{and-not-right, among_in, among_below, among-above, distance-le, begins-first}
+use Rattle.script.proofs.ScanLaws.{and-not-right, distance-le, begins-first}
 
 -- ---- where a piece ends
 
@@ -42,45 +44,29 @@ find_first s b = omega arith
 
 -- ---- the answers
 
-pub read-bytes : (s : List ℕ) (n : ℕ) (old new : List ℕ) → length s ≤ length old → n ≡ length s → new ≡ front s old → Read (bytes s) (piece.Bytes n) old new
+pub read-bytes : (s : List ℕ) (n : ℕ) (old new : List ℕ) → length s ≤ length old → n ≡ length s → new ≡ front s old → Read (bytes s) (Ok (piece.Bytes n)) old new
 unfolding answer_of output_of
 read-bytes s n old new h c o = record { result = rw (le-leb (length s) (length old) h, c); output = rw (le-leb (length s) (length old) h) o; within = omega arith }
 
-pub read-too-long : (s old : List ℕ) → length old < length s → Read (bytes s) piece.TooLong old old
+pub read-too-long : (s old : List ℕ) → length old < length s → Read (bytes s) (Err no.TooLong) old old
 unfolding answer_of output_of
 read-too-long s old h = record { result = rw (lt-leb (length s) (length old) h); output = rw (lt-leb (length s) (length old) h); within = zero-le }
 
-read_none : (old : List ℕ) → Read malformed piece.Malformed old old
+read_none : (old : List ℕ) → Read malformed (Err no.Malformed) old old
 unfolding answer_of output_of
 read_none old = record { result = refl; output = refl; within = zero-le }
 
-pub read_as : (m l : Meaning) (r : Piece) (old new : List ℕ) → m ≡ l → Read m r old new → Read l r old new
+pub read_as : (m l : Meaning) (r : Result Piece NoPiece) (old new : List ℕ) → m ≡ l → Read m r old new → Read l r old new
 read_as m l r old new e f = subst (λ (x : Meaning). Read x r old new) e f
 
-pub read-malformed : (m : Meaning) (old : List ℕ) → malformed ≡ m → Read m piece.Malformed old old
-read-malformed m old e = read_as malformed m piece.Malformed old old e (read_none old)
+pub read-malformed : (m : Meaning) (old : List ℕ) → malformed ≡ m → Read m (Err no.Malformed) old old
+read-malformed m old e = read_as malformed m (Err no.Malformed) old old e (read_none old)
 
-pub read-file : (m : Meaning) (old : List ℕ) → file ≡ m → Read m piece.File old old
+pub read-file : (m : Meaning) (old : List ℕ) → file ≡ m → Read m (Ok piece.File) old old
 unfolding answer_of output_of
-read-file m old e = read_as file m piece.File old old e (record { result = refl; output = refl; within = zero-le })
+read-file m old e = read_as file m (Ok piece.File) old old e (record { result = refl; output = refl; within = zero-le })
 
 -- ---- text
-
-pub plain-low : (b : ℕ) → b < 33 → is_plain b ≡ false
-unfolding is_plain
-plain-low b h = rw (among_below 33 126 b h)
-
-pub plain-high : (b : ℕ) → 126 < b → is_plain b ≡ false
-unfolding is_plain
-plain-high b h = rw (among-above 33 126 b h)
-
-pub plain-quote : (b : ℕ) → b ≡ quote → is_plain b ≡ false
-unfolding is_plain
-plain-quote b e = rw e
-
-pub plain-is : (b : ℕ) → 33 ≤ b → b ≤ 126 → (b ≡ quote → ⊥) → is_plain b ≡ true
-unfolding is_plain
-plain-is b h k e = rw (among_in 33 126 b h k, ne_eqb b quote e)
 
 module _ (s : List ℕ) where
   pub text-short : length s < 2 → malformed ≡ text_of s
@@ -137,11 +123,11 @@ module _ (n : ℕ) (d : List ℕ) where
   unfolding times_of
   times-are h e = rw (eq-eqb (length d) 2 h, e)
 
-pub run_is : (s : List ℕ) (k n : ℕ) → the.Value n ≡ number_of (take k s) → times_of n (drop (k + 1) s) ≡ run_of s k
+pub run_is : (s : List ℕ) (k n : ℕ) → Some n ≡ number_of (take k s) → times_of n (drop (k + 1) s) ≡ run_of s k
 unfolding run_of
 run_is s k n e = rw (← e)
 
-pub run-other : (s : List ℕ) (k : ℕ) → the.Malformed ≡ number_of (take k s) → malformed ≡ run_of s k
+pub run-other : (s : List ℕ) (k : ℕ) → None ≡ number_of (take k s) → malformed ≡ run_of s k
 unfolding run_of
 run-other s k e = rw (← e)
 

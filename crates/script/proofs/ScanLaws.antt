@@ -1,5 +1,7 @@
 -- Tests and searches, one element at a time. Assumes nothing.
-use Rattle.std.proofs.Common.{◌≡◌, ℕ, zero, suc, ◌+◌, ◌<◌, ◌≤◌, Bool, true, false, cond, ◌&&◌, eqb, leb, List, [], ◌∷◌, length, get_or, drop, refl, le_of_suc-le-suc, not-suc-le-zero, add-one, arith, length-drop, drop_of_length-le, drop-cons, eq-eqb, ne_eqb, le-leb}
+use Rattle.std.proofs.Common.{◌≡◌, ℕ, zero, suc, ◌+◌, ◌<◌, ◌≤◌, Bool, true, false, cond, not, ◌&&◌, eqb, leb, ltb, ltb-true, ltb-false, List, [], ◌∷◌, length, get_or, drop, refl, le_of_suc-le-suc, not-suc-le-zero, add-one, arith, length-drop, drop_of_length-le, drop-cons, le-leb}
+use Rattle.std.specs.List.{position_or_len, position}
+use Rattle.std.specs.Prelude.{Option, Some, None}
 use borrow.Author.Tests.{lt-leb}
 use Rattle.wire.proofs.SumLaws.{and_left, and_right}
 use Rattle.script.specs.Scan.{among, all, is_only, begins, distance, find_of, Found}
@@ -29,19 +31,15 @@ among-above low high b h = and-not-right (leb low b) (leb b high) (lt-leb b high
 
 module _ (q : ℕ → Bool) (s : List ℕ) (i : ℕ) where
   pub all-fails : i < length s → q (get_or s i 0) ≡ false → all q (drop i s) ≡ false
-  unfolding all
   all-fails h e = rw (drop-cons s i 0 h, e)
 
   pub all-next : i < length s → q (get_or s i 0) ≡ true → all q (drop i s) ≡ all q (drop (i + 1) s)
-  unfolding all
   all-next h e = rw (add-one, drop-cons s i 0 h, e)
 
   pub all_end : length s ≤ i → all q (drop i s) ≡ true
-  unfolding all
   all_end h = rw (drop_of_length-le s h)
 
 pub all-at : (q : ℕ → Bool) (s : List ℕ) (i : ℕ) → i < length s → all q s ≡ true → q (get_or s i 0) ≡ true
-unfolding all
 all-at q [] i h e = absurd (not-suc-le-zero h)
 all-at q (x ∷ s) zero h e = and_left (q x) (all q s) e
 all-at q (x ∷ s) (suc i) h e = all-at q s i (le_of_suc-le-suc h) (and_right (q x) (all q s) e)
@@ -49,14 +47,6 @@ all-at q (x ∷ s) (suc i) h e = all-at q s i (le_of_suc-le-suc h) (and_right (q
 -- ---- a search, from place i on
 
 module _ (b : ℕ) (s : List ℕ) (i : ℕ) where
-  pub distance-here : i < length s → get_or s i 0 ≡ b → distance b (drop i s) ≡ 0
-  unfolding distance
-  distance-here h e = rw (drop-cons s i 0 h, eq-eqb (get_or s i 0) b e)
-
-  pub distance_next : i < length s → (get_or s i 0 ≡ b → ⊥) → distance b (drop i s) ≡ suc (distance b (drop (i + 1) s))
-  unfolding distance
-  distance_next h e = rw (add-one, drop-cons s i 0 h, ne_eqb (get_or s i 0) b e)
-
   pub distance-end : length s ≤ i → distance b (drop i s) ≡ 0
   unfolding distance
   distance-end h = rw (drop_of_length-le s h)
@@ -94,3 +84,32 @@ pub begins-first : (b : ℕ) (s : List ℕ) → 0 < length s → begins b s ≡ 
 unfolding begins
 begins-first b [] h = absurd (not-suc-le-zero h)
 begins-first b (x ∷ s) h = refl
+
+-- ---- the library's word for the same: `position` of an iterator
+
+pub position_is : (b : ℕ) (s : List ℕ) → position_or_len (λ x. eqb x b) s ≡ distance b s
+unfolding distance
+position_is b [] = refl
+position_is b (x ∷ s) = go (eqb x b) (position_is b s)
+  where
+    go : (t : Bool) → position_or_len (λ x. eqb x b) s ≡ distance b s → cond (not t) (1 + position_or_len (λ x. eqb x b) s) 0 ≡ cond t 0 (suc (distance b s))
+    go true h = refl
+    go false h = rw h (omega arith)
+
+-- where there is such an element, its place; else the distance is the length
+pub position-some : (b : ℕ) (s : List ℕ) (n : ℕ) → Some n ≡ position (λ x. eqb x b) s → (n ≡ distance b s) × (n < length s)
+position-some b s n e = rw (← position_is b s) (go (ltb (position_or_len (λ x. eqb x b) s) (length s)) refl e)
+  where
+    go : (t : Bool) → ltb (position_or_len (λ x. eqb x b) s) (length s) ≡ t → Some n ≡ cond t (Some (position_or_len (λ x. eqb x b) s)) None
+        → (n ≡ position_or_len (λ x. eqb x b) s) × (n < length s)
+    go true p h = let q : n ≡ position_or_len (λ x. eqb x b) s = cc in (q, omega (arith, ltb-true (position_or_len (λ x. eqb x b) s) (length s) p))
+    go false p h = cc
+
+pub position-none : (b : ℕ) (s : List ℕ) → ◌≡◌ {A = Option ℕ} None (position (λ x. eqb x b) s) → length s ≡ distance b s
+position-none b s e =
+    omega (arith, distance-le b s, position_is b s, go (ltb (position_or_len (λ x. eqb x b) s) (length s)) refl e)
+  where
+    go : (t : Bool) → ltb (position_or_len (λ x. eqb x b) s) (length s) ≡ t → ◌≡◌ {A = Option ℕ} None (cond t (Some (position_or_len (λ x. eqb x b) s)) None)
+        → length s ≤ position_or_len (λ x. eqb x b) s
+    go true p h = cc
+    go false p h = ltb-false (position_or_len (λ x. eqb x b) s) (length s) p

@@ -1,5 +1,5 @@
 -- Bytes in hex, two digits a byte.
-use Rattle.std.specs.Prelude.{ℕ, ◌+◌, ◌-◌, ◌*◌, Bool, cond, List, [], ◌∷◌, nat_lt}
+use Rattle.std.specs.Prelude.{ℕ, ◌+◌, ◌-◌, ◌*◌, Bool, cond, List, [], ◌∷◌, nat_lt, Option, Some, None}
 use Rattle.script.specs.Scan.{among}
 
 -- the value of a digit, "upper or lower case": `0` to `9`, `A` to `F`, `a` to `f`; 16 where the byte is none
@@ -12,6 +12,10 @@ hex_digit b =
 
 unfoldable pub is_hex : ℕ → Bool
 is_hex b = nat_lt (hex_digit b) 16
+
+-- the value, where the byte is a digit
+abbrev pub digit_of : ℕ → Option ℕ
+digit_of b = cond (is_hex b) (Some (hex_digit b)) None
 
 -- the byte that two digits write
 unfoldable pub hex_byte : ℕ → ℕ → ℕ

@@ -1,11 +1,11 @@
 -- Pieces of a byte operand: "one or more pieces joined by `+`".
-use Rattle.std.specs.Prelude.{◌≡◌, ℕ, suc, ◌+◌, ◌-◌, ◌%◌, ◌≤◌, min, Bool, cond, not, ◌&&◌, List, [], ◌∷◌, length, take, drop, replicate, ◌==◌, nat_le, nat_lt, slice_index}
+use Rattle.std.specs.Prelude.{◌≡◌, ℕ, suc, ◌+◌, ◌-◌, ◌%◌, ◌≤◌, min, Bool, cond, not, ◌&&◌, List, [], ◌∷◌, length, take, drop, replicate, ◌==◌, nat_le, nat_lt, slice_index, Option, Some, None, Result, Ok, Err}
 use Rattle.wire.specs.Front.{front}
 use Rattle.script.specs.Scan.{among, all, is_only, begins, distance, quote, star, plus, dash, at, underscore}
 use Rattle.script.specs.Decimal.{number_of}
 use Rattle.script.specs.Hex.{is_hex, hex_byte, pairs}
-use Rattle.script.specs.declared.reading.Number.{Number}
-use Rattle.script.specs.declared.reading.Number.TheVariants as the
+use Rattle.script.specs.declared.reading.NoPiece.{NoPiece}
+use Rattle.script.specs.declared.reading.NoPiece.TheVariants as no
 use Rattle.script.specs.declared.reading.Piece.{Piece}
 use Rattle.script.specs.declared.reading.Piece.TheVariants as piece
 
@@ -53,9 +53,9 @@ times_of n digits =
     (bytes (replicate n (hex_byte (slice_index digits 0) (slice_index digits 1))))
     malformed
 
-abbrev pub on_number : Number → (ℕ → Meaning) → Meaning
-on_number (the.Value n) f = f n
-on_number the.Malformed f = malformed
+abbrev pub on_number : Option ℕ → (ℕ → Meaning) → Meaning
+on_number (Some n) f = f n
+on_number None f = malformed
 
 -- `416*00`: the number before the star, and the byte after it
 unfoldable pub run_of : List ℕ → ℕ → Meaning
@@ -72,10 +72,10 @@ piece_of text last =
     (hex_of text)))))
 
 -- the answer, by what a piece stands for and the room
-unfoldable pub answer_of : Meaning → ℕ → Piece
-answer_of (bytes s) room = cond (nat_le (length s) room) (piece.Bytes (length s)) piece.TooLong
-answer_of file room = piece.File
-answer_of malformed room = piece.Malformed
+unfoldable pub answer_of : Meaning → ℕ → Result Piece NoPiece
+answer_of (bytes s) room = cond (nat_le (length s) room) (Ok (piece.Bytes (length s))) (Err no.TooLong)
+answer_of file room = Ok piece.File
+answer_of malformed room = Err no.Malformed
 
 -- the output then: the bytes over its front, where they fit
 unfoldable pub output_of : Meaning → List ℕ → List ℕ
@@ -84,14 +84,13 @@ output_of file out = out
 output_of malformed out = out
 
 -- how many bytes were written
-abbrev pub count_of : Piece → ℕ
-count_of (piece.Bytes n) = n
-count_of piece.File = 0
-count_of piece.Malformed = 0
-count_of piece.TooLong = 0
+abbrev pub count_of : Result Piece NoPiece → ℕ
+count_of (Ok (piece.Bytes n)) = n
+count_of (Ok piece.File) = 0
+count_of (Err e) = 0
 
 -- what reading a piece promises
-pub record Read (m : Meaning) (r : Piece) (old new : List ℕ) : Type 0 where
+pub record Read (m : Meaning) (r : Result Piece NoPiece) (old new : List ℕ) : Type 0 where
   pub result : r ≡ answer_of m (length old)
   pub output : new ≡ output_of m old
   pub within : count_of r ≤ length old

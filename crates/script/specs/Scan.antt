@@ -1,5 +1,6 @@
 -- Tests and searches on bytes.
-use Rattle.std.specs.Prelude.{◌≡◌, ℕ, suc, ◌+◌, ◌-◌, ◌≤◌, Bool, true, false, cond, ◌&&◌, List, [], ◌∷◌, length, drop, ◌==◌, nat_le}
+use Rattle.std.specs.Prelude.{◌≡◌, ℕ, suc, ◌+◌, ◌-◌, ◌≤◌, Bool, false, cond, ◌&&◌, List, [], ◌∷◌, length, drop, ◌==◌, nat_le}
+use Rattle.std.specs.List.{list_all}
 use Prim.Native.Char.{code}
 use Prim.Native.String as native
 use Prim.Native.String.{String}
@@ -36,9 +37,8 @@ abbrev pub among : ℕ → ℕ → ℕ → Bool
 among low high b = nat_le low b && nat_le b high
 
 -- whether a test holds of every element
-unfoldable pub all : (ℕ → Bool) → List ℕ → Bool
-all q [] = true
-all q (x ∷ xs) = q x && all q xs
+abbrev pub all : (ℕ → Bool) → List ℕ → Bool
+all q s = list_all q s
 
 -- whether a text is this one byte
 unfoldable pub is_only : ℕ → List ℕ → Bool

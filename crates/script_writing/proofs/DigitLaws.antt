@@ -1,9 +1,11 @@
 -- The digits of a number in any base: counted, and written from the last one on, each by its letter. Decimal and hex are two of it.
 -- Assumes nothing.
-use Prim.Native.Nat.{ℕ, zero, suc, ◌+◌, ◌*◌, ◌-◌, ◌/◌, ◌%◌, ◌≤◌, ◌<◌}
+use Prim.Native.Nat.{ℕ, zero, suc, ◌+◌, ◌*◌, ◌-◌, ◌/◌, ◌%◌, ◌^◌, ◌≤◌, ◌<◌}
 use mathlib.Core.Path.{◌≡◌, refl, sym, ap, ◌∙◌}
+use mathlib.Core.Logic.{⊎_elim}
 use mathlib.Core.List.{List, [], ◌∷◌, ◌++◌, map, append_assoc, append-nil, map-append}
-use native.Mathlib.Nat.{not-suc-le-zero, le_refl, div-lt_iff_lt-mul}
+use native.Mathlib.Nat.{not-suc-le-zero, le_refl, div-lt_iff_lt-mul, le-div_iff_mul-le, pow-suc, mul_assoc, one-le-pow, mul-le-mul_right, pow-le-pow_right}
+use native.Mathlib.Numerals.{unary_clauses}
 use native.Mathlib.Omega.{arith}
 use lib.ListN.{length, take, drop, set, length-append, length-map, length-set, length-drop}
 use lib.Seq.{drop-length, length-take-le, take_at, drop_at, drop-drop}
@@ -11,7 +13,7 @@ use borrow.Author.Tests.{lt-ltb, le-ltb}
 use borrow.Rule.Slice.PartMut.{mid_of, put_mid}
 use Rattle.wire.specs.Front.{front}
 use Rattle.wire.specs.Numbers.{digits}
-use Rattle.wire.proofs.ListLaws.{drop-set-here}
+use Rattle.wire.proofs.ListLaws.{lt-or-le, drop-set-here}
 use Rattle.wire.proofs.NumberLaws.{length_digits}
 use Rattle.script_writing.specs.Digits.{places}
 use Rattle.script_writing.specs.Decimal.{decimal_letter, decimal_width, decimal_digits, decimal_text}
@@ -24,12 +26,6 @@ abbrev pub limit : ℕ → ℕ → ℕ
 limit base zero = 1
 limit base (suc n) = limit base n * base
 
--- a loop that counts them, of a number that has at most so many: the digits counted, and those of what is left
-pub record Counted (base most v rest k : ℕ) : Type 0 where
-  pub few : k ≤ most
-  pub is : k + places base (suc (most - k)) rest ≡ suc (places base most v)
-  pub low : rest < limit base (suc (most - k))
-
 pub places-small : (base n v : ℕ) → v < base → places base (suc n) v ≡ 1
 unfolding places
 places-small base n v h = rw (lt-ltb v base h)
@@ -38,27 +34,21 @@ pub places-large : (base n v : ℕ) → base ≤ v → places base (suc n) v ≡
 unfolding places
 places-large base n v h = rw (le-ltb v base h)
 
-pub count-start : (base n v : ℕ) → v < limit base (suc n) → Counted base (suc n) v v 1
-count-start base n v h =
-    let e : suc n - 1 ≡ n = omega arith in
-    record { few = omega arith; is = rw e (omega arith); low = rw e h }
+-- the logarithm is one less
+pub places-log : (base n v k : ℕ) → 0 < base → k + 1 ≤ n → base ^ k ≤ v → v < base * base ^ k → k + 1 ≡ places base n v
+places-log base zero v k b h l u = absurd (omega arith)
+places-log base (suc n) v zero b h l u = omega (arith, places-small base n v (omega (arith, simp unary_clauses at u)))
+places-log base (suc n) v (suc k) b h l u =
+    let large : base ^ k * base ≤ v = rw pow-suc at l in
+    let below : v < base * base ^ k * base = rw mul_assoc (rw pow-suc at u) in
+    let one : 1 ≤ base ^ k = one-le-pow k base b in
+    let first : base ≤ v = omega (arith, large, mul-le-mul_right base one) in
+    let next = places-log base n (v / base) k b (omega arith) ((le-div_iff_mul-le b).1 large) ((div-lt_iff_lt-mul b).1 below) in
+    omega (arith, next, places-large base n v first)
 
-pub count_next : (base most v rest k : ℕ) → 0 < base → Counted base most v rest k → base ≤ rest → Counted base most v (rest / base) (k + 1)
-count_next base most v rest k b f h = go (most - k) refl f.is f.low
-  where
-    go : (m : ℕ) → most - k ≡ m → k + places base (suc m) rest ≡ suc (places base most v) → rest < limit base (suc m)
-        → Counted base most v (rest / base) (k + 1)
-    go zero e q l = absurd (omega arith)
-    go (suc m) e q l =
-        let d : most - (k + 1) ≡ m = omega arith in
-        record {
-          few = omega arith;
-          is = rw d (omega (arith, places-large base (suc m) rest h));
-          low = rw d ((div-lt_iff_lt-mul b).1 l);
-        }
-
-pub count-end : (base most v rest k : ℕ) → Counted base most v rest k → rest < base → k ≡ places base most v
-count-end base most v rest k f h = omega (arith, f.is, places-small base (most - k) rest h)
+-- and in hex it is below 16
+pub hex-log : (v k : ℕ) → v < 2 ^ 64 → 16 ^ k ≤ v → k + 1 ≤ 16
+hex-log v k h l = ⊎_elim (λ p. omega arith) (λ q. absurd (omega (arith, pow-le-pow_right {n = 16} (omega arith) q))) (lt-or-le k 16)
 
 -- ---- the low digits, each by its letter
 
@@ -119,6 +109,17 @@ filled-after f long acc old mid part n k e h o p =
     rw (q, first, rest, length-append, long k, e, append_assoc, drop-drop)
 
 -- ---- decimal and hex
+
+-- a decimal digit has the letter that it has in hex
+letter-decimal : (d : ℕ) → d < 10 → hex_letter d ≡ decimal_letter d
+unfolding hex_letter
+letter-decimal d h = rw (lt-ltb d 10 h) (omega arith)
+
+pub digits-decimal : (n v : ℕ) → map hex_letter (digits 10 n v) ≡ decimal_digits n v
+unfolding decimal_digits digits
+digits-decimal zero v = refl
+digits-decimal (suc n) v =
+    letters-snoc 10 hex_letter n v ∙ rw (letter-decimal (v % 10) (omega arith), digits-decimal n (v / 10)) (sym (letters-snoc 10 decimal_letter n v))
 
 pub length-decimal_digits : (n v : ℕ) → length (decimal_digits n v) ≡ n
 unfolding decimal_digits

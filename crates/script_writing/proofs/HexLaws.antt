@@ -65,7 +65,7 @@ first b s f = f 0 (suc-le-suc zero-le)
 
 -- the text of bytes is made of digits, and gives the bytes back
 pub hex_text-hex : (s : List ℕ) → Bytes s → all is_hex (hex_text s) ≡ true
-unfolding all hex_text hex_pair
+unfolding hex_text hex_pair
 hex_text-hex [] f = refl
 hex_text-hex (b ∷ s) f =
     let h : b < 256 = first b s f in

@@ -19,7 +19,7 @@ use Rattle.script_writing.specs.Digits.{places}
 use Rattle.script.specs.Hex.{is_hex, hex_digit}
 use Rattle.script_writing.specs.Hex.{hex_text}
 use Rattle.script.specs.Piece.{bytes, hex_of, piece_of}
-use Rattle.script.specs.declared.reading.Number.TheVariants as the
+use Rattle.std.specs.Prelude.{Some}
 use Rattle.script.proofs.ScanLaws.{all-at, and-true, only-not}
 use Rattle.script.proofs.DecimalLaws.{decimal-is, value_of, number-value}
 use Rattle.script_writing.proofs.DigitLaws.{limit, letters-snoc, length-decimal_text}
@@ -40,7 +40,7 @@ not-here c x p q e = false≢true (sym p ∙ ap is_hex (sym e) ∙ q)
 
 -- a search goes past elements that pass a test which what is searched for does not pass
 pub distance-past : (q : ℕ → Bool) (c : ℕ) (s t : List ℕ) → q c ≡ false → all q s ≡ true → distance c (s ++ t) ≡ length s + distance c t
-unfolding distance all
+unfolding distance
 distance-past q c [] t p e = omega arith
 distance-past q c (x ∷ s) t p e =
     rw (ne_eqb x c (λ d. false≢true (sym p ∙ ap q (sym d) ∙ and_left (q x) (all q s) e)))
@@ -85,16 +85,14 @@ above-places (suc n) v h =
     (lt-or-le v 10)
 
 all_append : (q : ℕ → Bool) (s t : List ℕ) → all q s ≡ true → all q t ≡ true → all q (s ++ t) ≡ true
-unfolding all
 all_append q [] t e f = f
 all_append q (x ∷ s) t e f = and-true (q x) (all q (s ++ t)) (and_left (q x) (all q s) e) (all_append q s t (and_right (q x) (all q s) e) f)
 
 one-decimal : (d : ℕ) → d < 10 → all is_decimal ((48 + d) ∷ []) ≡ true
-unfolding all
 one-decimal d h = and-true (is_decimal (48 + d)) true (decimal-is (48 + d) (omega arith) (omega arith)) refl
 
 none-decimal : (v : ℕ) → all is_decimal (decimal_digits 0 v) ≡ true
-unfolding all decimal_digits digits
+unfolding decimal_digits digits
 none-decimal v = refl
 
 digits_decimal : (n v : ℕ) → all is_decimal (decimal_digits n v) ≡ true
@@ -121,9 +119,9 @@ unfolding decimal_text
 text-decimal v = digits_decimal (decimal_width v) v
 
 -- the text of a number below 2^64 is read as the number
-pub number-back : (v : ℕ) → v < 2 ^ 64 → number_of (decimal_text v) ≡ the.Value v
+pub number-back : (v : ℕ) → v < 2 ^ 64 → number_of (decimal_text v) ≡ Some v
 unfolding decimal_width
 number-back v h =
     let e : value_of (decimal_text v) ≡ v = value-back v h in
     sym (number-value (decimal_text v) (omega (arith, length-decimal_text v, width-pos v)) (text-decimal v) (omega arith))
-    ∙ ap (λ (x : ℕ). the.Value x) e
+    ∙ ap (λ (x : ℕ). Some x) e

@@ -1,12 +1,12 @@
 -- Bytes as an answer shows them, read as pieces joined by `+`, are the bytes again. Assumes nothing.
-use Prim.Native.Nat.{ℕ, zero, suc, ◌+◌, ◌-◌, ◌/◌, ◌%◌, ◌^◌, ◌≤◌, ◌<◌, zero-le, min}
+use Prim.Native.Nat.{ℕ, zero, suc, ◌+◌, ◌-◌, ◌/◌, ◌%◌, ◌^◌, ◌≤◌, ◌<◌, min}
 use mathlib.Core.Path.{◌≡◌, refl, sym, ap, ap₂, ◌∙◌}
 use mathlib.Core.Bool.{Bool, true, false, false≢true, cond}
 use mathlib.Core.Logic.{⊎_elim}
 use mathlib.Core.List.{List, [], ◌∷◌, ◌++◌, reverse}
 use native.Mathlib.Nat.{not-suc-le-zero, le_of_suc-le-suc}
 use native.Mathlib.Omega.{arith}
-use lib.ListN.{length, take, drop, get_or, replicate, length-append, length-take, length-drop, length-replicate, length-reverse, get_or-replicate, take-append-drop, get_or-append}
+use lib.ListN.{length, take, drop, get_or, replicate, length-append, length-take, length-drop, length-replicate, get_or-replicate, take-append-drop, get_or-append}
 use lib.Seq.{take_at, drop-append-add, get_or-append_seam, get_or-take, get_or-drop, ext_get_or}
 use lib.Dec.{ltb, eqb}
 use borrow.Author.Tests.{lt-ltb, le-ltb, eq-eqb, ne_eqb, eqb-true}
@@ -22,7 +22,7 @@ use Rattle.script.proofs.ScanLaws.{all-at, only-not}
 use Rattle.script_writing.proofs.DigitLaws.{length-decimal_text}
 use Rattle.script_writing.proofs.HexLaws.{Bytes, letter-hex, pair-byte, length-hex_pair, length-hex_text, hex_text-hex}
 use Rattle.script.proofs.PieceLaws.{times-are, run_is, piece-run}
-use Rattle.script_writing.proofs.ShownLaws.{reverse-at, length-run_text, shown-none, shown-hex, shown-run, shown-joined}
+use Rattle.script_writing.proofs.ShownLaws.{reverse-at, run-within, length-run_text, shown-none, shown-hex, shown-run, shown-joined}
 use Rattle.script_writing.proofs.ReadBack.{distance-past, distance_none, first-not, hex-piece, number-back, text-decimal, width-pos}
 
 abbrev pub after : Meaning → Meaning → Meaning
@@ -91,7 +91,7 @@ joined_back head run last f h =
 -- ---- a run
 
 pair-hex : (b : ℕ) → b < 256 → all is_hex (hex_pair b) ≡ true
-unfolding all hex_pair
+unfolding hex_pair
 pair-hex b h = rw (letter-hex (b / 16) (omega arith), letter-hex (b % 16) (omega arith))
 
 pair-times : (n b : ℕ) → b < 256 → times_of n (hex_pair b) ≡ bytes (replicate n b)
@@ -157,19 +157,6 @@ equal-at b (x ∷ r) j h = go (λ i k. equal-at b r i k) (eqb x b) refl j h
     go ih true e zero k = eqb-true x b e
     go ih true e (suc j) k = ih j (le_of_suc-le-suc k)
     go ih false e j k = absurd (not-suc-le-zero k)
-
-equal-le : (b : ℕ) (r : List ℕ) → equal_front b r ≤ length r
-unfolding equal_front
-equal-le b [] = zero-le
-equal-le b (x ∷ r) = go (eqb x b) (equal-le b r)
-  where
-    go : (t : Bool) → equal_front b r ≤ length r → cond t (suc (equal_front b r)) 0 ≤ suc (length r)
-    go true h = omega arith
-    go false h = zero-le
-
-run-within : (s : List ℕ) → trailing_run s ≤ length s
-unfolding trailing_run
-run-within s = omega (arith, equal-le (last_byte s) (reverse s), length-reverse s)
 
 module _ (s : List ℕ) where
   run_at : (i : ℕ) → i < trailing_run s → get_or s (length s - trailing_run s + i) 0 ≡ last_byte s
@@ -253,5 +240,5 @@ module _ (s last : List ℕ) (f : Bytes s) (few : length s < 2 ^ 64) where
 
 -- `"a"b` is no operand, `"a"+"b"` is
 pub text-then-plus : (operand_of 2 (34 ∷ 97 ∷ 34 ∷ 98 ∷ []) [] ≡ malformed) × (operand_of 2 (34 ∷ 97 ∷ 34 ∷ 43 ∷ 34 ∷ 98 ∷ 34 ∷ []) [] ≡ bytes (97 ∷ 98 ∷ []))
-unfolding operand_of piece_length piece_of is_only begins distance text_of inner is_plain all
+unfolding operand_of piece_length piece_of is_only begins distance text_of inner is_plain
 text-then-plus = (refl, refl)

@@ -1,5 +1,6 @@
 // Bytes: in hex, and as an answer shows them.
-ghost use Rattle.std.specs.Prelude.{◌≡◌, ◌≤◌, length};
+ghost use Rattle.std.specs.Prelude.{◌≡◌, ◌==◌, ◌≤◌, length, reverse};
+ghost use Rattle.std.specs.List.{take_while};
 ghost use Rattle.wire.specs.Front.{front};
 ghost use Rattle.script_writing.specs.Hex.{hex_pair, hex_text};
 ghost use Rattle.script_writing.specs.Shown.{Written, trailing_run, run_text, joined_text, shown_text};
@@ -20,37 +21,32 @@ fn put_pair(out: &mut [u8], b: u8)
 pub fn put_hex(out: &mut [u8], bytes: &[u8]) -> usize
     ensures { Written (hex_text bytes.now) result out.old out.new }
 {
-    let n = bytes.len();
-    if out.len() / 2 < n {
+    if out.len() / 2 < bytes.len() {
         return 0;
     }
     let mut at: usize = 0;
-    let mut i: usize = 0;
-    while i < n {
-        put_pair(&mut out[at..], bytes[i]);
+    for &b in bytes {
+        put_pair(&mut out[at..], b);
         at += 2;
-        i += 1;
     }
     at
+}
+
+// How many bytes at the end equal a byte.
+fn equal_end(bytes: &[u8], byte: u8) -> usize
+    ensures { result ≡ length (take_while (λ b. b == byte) (reverse bytes.now)) }
+{
+    bytes.iter().rev().take_while(|b| **b == byte).count()
 }
 
 // How many bytes at the end are equal.
 fn trailing_run(bytes: &[u8]) -> usize
     ensures { (result ≡ trailing_run bytes.now) × (result ≤ length bytes.now) }
 {
-    let n = bytes.len();
-    if n == 0 {
-        return 0;
+    match bytes.last() {
+        Some(&last) => equal_end(bytes, last),
+        None => 0,
     }
-    let last = bytes[n - 1];
-    let mut k: usize = 0;
-    while k < n {
-        if bytes[n - 1 - k] != last {
-            return k;
-        }
-        k += 1;
-    }
-    k
 }
 
 // Writes a run: how often, a star, and the byte in hex.

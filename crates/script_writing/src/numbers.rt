@@ -1,33 +1,30 @@
 // Numbers: in decimal, and in hex, lower case, each after a space.
-ghost use Rattle.std.specs.Prelude.{◌≡◌, ◌∷◌, ◌≤◌, ◌<◌, length};
+ghost use Rattle.std.specs.Prelude.{◌≡◌, ◌∷◌, ◌≤◌, ◌<◌, length, map};
+ghost use Rattle.wire.specs.Numbers.{digits};
 ghost use Rattle.script.specs.Scan.{space};
-ghost use Rattle.script_writing.specs.Decimal.{decimal_width, decimal_digits, decimal_text};
+ghost use Rattle.script_writing.specs.Decimal.{decimal_width, decimal_text};
 ghost use Rattle.script_writing.specs.Hex.{hex_letter, hex_width, hex_digits, word_text, id_text};
 ghost use Rattle.script_writing.specs.Shown.{Written};
 
-// How many decimal digits a number has.
+// How many decimal digits a number has; 0 has one.
 pub fn decimal_width(n: u64) -> usize
     ensures { (result ≡ decimal_width n) × (result ≤ 20) }
 {
-    let mut rest = n;
-    let mut k: usize = 1;
-    while 10 <= rest {
-        rest = rest / 10;
-        k += 1;
+    match n.checked_ilog10() {
+        Some(k) => k as usize + 1,
+        None => 1,
     }
-    k
 }
 
-// Fills the part with the number's low digits, the lowest one last.
-fn fill_digits(part: &mut [u8], n: u64)
-    ensures { part.new ≡ decimal_digits (length part.old) n }
+// Fills the part with the number's low digits in a base up to 16, the lowest one last.
+fn fill_digits<const BASE: u64>(part: &mut [u8], n: u64)
+    requires { (2 ≤ BASE) × (BASE ≤ 16) }
+    ensures { part.new ≡ map hex_letter (digits BASE (length part.old) n) }
 {
     let mut rest = n;
-    let mut k = part.len();
-    while 0 < k {
-        k -= 1;
-        part[k] = b'0' + (rest % 10) as u8;
-        rest = rest / 10;
+    for k in (0..part.len()).rev() {
+        part[k] = hex_letter((rest % BASE) as u8);
+        rest /= BASE;
     }
 }
 
@@ -39,7 +36,7 @@ pub fn put_decimal(out: &mut [u8], n: u64) -> usize
     if out.len() < width {
         return 0;
     }
-    fill_digits(&mut out[..width], n);
+    fill_digits::<10>(&mut out[..width], n);
     width
 }
 
@@ -51,29 +48,13 @@ pub fn hex_letter(v: u8) -> u8
     if v < 10 { v + b'0' } else { v + 87 }
 }
 
-// How many hex digits a number has.
+// How many hex digits a number has; 0 has one.
 fn hex_width(v: u64) -> usize
     ensures { (result ≡ hex_width v) × (result ≤ 16) }
 {
-    let mut rest = v;
-    let mut k: usize = 1;
-    while 16 <= rest {
-        rest = rest / 16;
-        k += 1;
-    }
-    k
-}
-
-// Fills the part with the number's low digits, the lowest one last.
-fn fill_hex(part: &mut [u8], v: u64)
-    ensures { part.new ≡ hex_digits (length part.old) v }
-{
-    let mut rest = v;
-    let mut k = part.len();
-    while 0 < k {
-        k -= 1;
-        part[k] = hex_letter((rest % 16) as u8);
-        rest = rest / 16;
+    match v.checked_ilog(16) {
+        Some(k) => k as usize + 1,
+        None => 1,
     }
 }
 
@@ -86,7 +67,7 @@ pub fn put_digits(out: &mut [u8], width: usize, v: u64) -> usize
     }
     wire::w8(out, b' ');
     let end = width + 1;
-    fill_hex(&mut out[1..end], v);
+    fill_digits::<16>(&mut out[1..end], v);
     end
 }
 

@@ -1,6 +1,6 @@
 -- The lines of frames: together they take every byte, each byte one line, and one line is marked, that of the joiner's stop, however many
 -- are shown. Assumes nothing.
-use Prim.Native.Nat.{ℕ, zero, suc, ◌+◌, ◌≤◌, zero-le}
+use Prim.Native.Nat.{ℕ, zero, suc, ◌+◌, ◌≤◌}
 use mathlib.Core.Path.{◌≡◌, refl, sym, ap, ◌∙◌, subst}
 use mathlib.Core.Bool.{Bool, true, false, cond}
 use mathlib.Core.List.{List, [], ◌∷◌}
@@ -13,11 +13,15 @@ use Rattle.wire.proofs.AnswerLaws.{apart}
 use Rattle.wire.specs.Stops.{Stopped}
 use Rattle.script_writing.specs.Shown.{equal_front}
 use Rattle.frames.specs.declared.reading.CryptoFrame.{CryptoFrame}
-use Rattle.frames.specs.declared.reading.FrameRead.{FrameRead}
-use Rattle.frames.specs.Read.{Shape, padding, ping, crypto, read_crypto, read_frame, shape_of, FrameFound}
+use Rattle.frames.specs.declared.reading.Frame.{Frame}
+use Rattle.frames.specs.declared.reading.Frame.TheVariants as frame
+use Rattle.std.specs.Prelude.{Result}
+use Rattle.wire.specs.Refusals.{answer_of}
+use Rattle.wire.specs.declared.refusals.Refusal.{Refusal}
+use Rattle.script_writing.proofs.ShownLaws.{equal-le}
+use Rattle.frames.specs.Read.{read_crypto, read_frame, FrameFound}
 use Rattle.frames.proofs.ReadBack.{extent-bounds}
 use Rattle.show_lines.specs.Lines.{Row, Tiles}
-use Rattle.show_lines.proofs.PartLaws.{cond-elim}
 use Rattle.show_lines.proofs.LineLaws.{tiles-up}
 use Rattle.show_marks.specs.Text.{count_marked}
 use Rattle.show_marks.proofs.MarkLaws.{last-tile, one-marked}
@@ -26,53 +30,51 @@ use Rattle.show_frames.specs.Frames.{zeros, size_by, line_size, frame_rows, rows
 -- ---- How many bytes a line takes
 
 zeros_within : (bs : List ℕ) → zeros bs ≤ length bs
-unfolding zeros equal_front
-zeros_within [] = zero-le
-zeros_within (b ∷ bs) =
-    cond-elim (λ (n : ℕ). n ≤ suc (length bs)) (eqb b 0) _ _ (λ t. let up = zeros_within bs in omega arith) (λ t. zero-le)
+unfolding zeros
+zeros_within bs = equal-le 0 bs
 
-abbrev on_padding : Answer Shape → ℕ
+abbrev on_padding : Answer Frame → ℕ
 on_padding (refused n) = 0
-on_padding (result padding) = 1
-on_padding (result ping) = 0
-on_padding (result (crypto c)) = 0
+on_padding (result frame.Padding) = 1
+on_padding (result frame.Ping) = 0
+on_padding (result (frame.Crypto c)) = 0
 
 not-padding : (x y : Bool) (a : Answer CryptoFrame)
-    → cond x (result ping) (cond y (and_then a (λ c. result (crypto c))) (refused 11)) ≡ result padding → ⊥
+    → cond x (result frame.Ping) (cond y (and_then a (λ c. result (frame.Crypto c))) (refused 11)) ≡ result frame.Padding → ⊥
 not-padding true y a e = let z : ◌≡◌ {A = ℕ} 0 1 = ap on_padding e in omega arith
 not-padding false true (result c) e = let z : ◌≡◌ {A = ℕ} 0 1 = ap on_padding e in omega arith
 not-padding false true (refused n) e = apart e
 not-padding false false a e = apart e
 
 -- PADDING begins with a byte 00
-zeros-some : (bs : List ℕ) → read_frame bs ≡ result padding → 1 ≤ zeros bs
+zeros-some : (bs : List ℕ) → read_frame bs ≡ result frame.Padding → 1 ≤ zeros bs
 unfolding read_frame zeros equal_front
 zeros-some [] e = absurd (apart e)
 zeros-some (b ∷ bs) e = by_zero (eqb b 0) e
   where
     by_zero : (t : Bool)
-        → cond t (result padding)
-        (cond (eqb b 1) (result ping) (cond (eqb b 6) (and_then (read_crypto (b ∷ bs)) (λ c. result (crypto c))) (refused 11)))
-        ≡ result padding → 1 ≤ cond t (suc (zeros bs)) 0
+        → cond t (result frame.Padding)
+        (cond (eqb b 1) (result frame.Ping) (cond (eqb b 6) (and_then (read_crypto (b ∷ bs)) (λ c. result (frame.Crypto c))) (refused 11)))
+        ≡ result frame.Padding → 1 ≤ cond t (suc (zeros bs)) 0
     by_zero true e = omega arith
     by_zero false e = absurd (not-padding (eqb b 1) (eqb b 6) (read_crypto (b ∷ bs)) e)
 
-sized : (bs : List ℕ) → 1 ≤ length bs → (a : Answer Shape) → read_frame bs ≡ a → (1 ≤ size_by bs a) × (size_by bs a ≤ length bs)
+sized : (bs : List ℕ) → 1 ≤ length bs → (a : Answer Frame) → read_frame bs ≡ a → (1 ≤ size_by bs a) × (size_by bs a ≤ length bs)
 sized bs h (refused n) e = (h, omega arith)
-sized bs h (result padding) e = (zeros-some bs e, zeros_within bs)
-sized bs h (result ping) e = (omega arith, h)
-sized bs h (result (crypto c)) e = extent-bounds bs (crypto c) e
+sized bs h (result frame.Padding) e = (zeros-some bs e, zeros_within bs)
+sized bs h (result frame.Ping) e = (omega arith, h)
+sized bs h (result (frame.Crypto c)) e = extent-bounds bs (frame.Crypto c) e
 
 pub size-bounds : (bs : List ℕ) → 1 ≤ length bs → (1 ≤ line_size bs) × (line_size bs ≤ length bs)
 unfolding line_size
 size-bounds bs h = sized bs h (read_frame bs) refl
 
 -- as the code finds the frame
-pub size_is : (bs : List ℕ) (r found : FrameRead) (n : ℕ) → 1 ≤ length bs → FrameFound bs r → r ≡ found → n ≡ size_by bs (shape_of found)
+pub size_is : (bs : List ℕ) (r found : Result Frame Refusal) (n : ℕ) → 1 ≤ length bs → FrameFound bs r → r ≡ found → n ≡ size_by bs (answer_of found)
     → (n ≡ line_size bs) × (1 ≤ n) × (n ≤ length bs)
 unfolding line_size
 size_is bs r found n h f e k =
-    let is : n ≡ line_size bs = k ∙ ap (λ (x : FrameRead). size_by bs (shape_of x)) (sym e) ∙ ap (size_by bs) f.is in
+    let is : n ≡ line_size bs = k ∙ ap (λ (x : Result Frame Refusal). size_by bs (answer_of x)) (sym e) ∙ ap (size_by bs) f.is in
     let s = size-bounds bs h in
     (is, omega (arith, is, s), omega (arith, is, s))
 

@@ -8,7 +8,9 @@ use Rattle.varint.specs.Varint.{class_at, read_of}
 use Rattle.script_writing.specs.Shown.{equal_front}
 use Rattle.frames.specs.Read.{read_crypto, read_frame}
 use Rattle.show_lines.specs.Lines.{row}
-use Rattle.show_marks.specs.Text.{stop_from, marks}
+use mathlib.Core.Option.{some}
+use Rattle.wire.specs.Stops.{stopped}
+use Rattle.show_marks.specs.Text.{marks}
 use Rattle.show_frames.specs.Frames.{zeros, line_size, frame_rows, rows_of, end_from, shown_rows}
 
 -- CRYPTO with two bytes of data, PADDING twice, and PING
@@ -26,6 +28,6 @@ unfolding number_on number class_at read_of read_crypto read_frame equal_front z
 cut-frame = refl
 
 -- the first line and what is left on a last one. Not of a program that leaves out what it has no room for: no line would be marked.
-pub first-shown : map (marks (stop_from 15 7)) (shown_rows 1 three) ≡ false ∷ true ∷ []
+pub first-shown : map (marks (some (stopped 15 7))) (shown_rows 1 three) ≡ false ∷ true ∷ []
 unfolding number_on number class_at read_of read_crypto read_frame equal_front zeros line_size frame_rows rows_of end_from shown_rows
 first-shown = refl

@@ -6,7 +6,9 @@ use Rattle.wire.specs.Answer.{Answer, result, refused}
 use Rattle.script_writing.specs.Shown.{equal_front}
 use Rattle.script_writing.specs.Answers.{WrittenAll}
 use Rattle.wire.specs.Stops.{Stopped}
-use Rattle.frames.specs.Read.{Shape, padding, ping, crypto, read_frame}
+use Rattle.frames.specs.Read.{read_frame}
+use Rattle.frames.specs.declared.reading.Frame.{Frame}
+use Rattle.frames.specs.declared.reading.Frame.TheVariants as frame
 use Rattle.show_lines.specs.Lines.{Row, row}
 use Rattle.show_marks.specs.Text.{last_row, verdict_parts, LinesParts}
 
@@ -15,11 +17,11 @@ unfoldable pub zeros : List ℕ → ℕ
 zeros bs = equal_front 0 bs
 
 -- how many bytes the line at the front takes
-abbrev pub size_by : List ℕ → Answer Shape → ℕ
+abbrev pub size_by : List ℕ → Answer Frame → ℕ
 size_by bs (refused n) = length bs
-size_by bs (result padding) = zeros bs
-size_by bs (result ping) = 1
-size_by bs (result (crypto c)) = c.end
+size_by bs (result frame.Padding) = zeros bs
+size_by bs (result frame.Ping) = 1
+size_by bs (result (frame.Crypto c)) = c.end
 
 unfoldable pub line_size : List ℕ → ℕ
 line_size bs = size_by bs (read_frame bs)

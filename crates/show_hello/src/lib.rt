@@ -5,16 +5,18 @@
 mod words;
 
 ghost use Rattle.std.specs.Prelude.{◌≤◌, length};
+ghost use Rattle.wire.specs.Stops.{stop_of};
 ghost use Rattle.show_lines.specs.Lines.{row, Reaches, Ready};
-ghost use Rattle.show_marks.specs.Text.{stop_from, last_row};
+ghost use Rattle.show_marks.specs.Text.{last_row};
 ghost use Rattle.show_words.specs.Code.{LineWritten, LinesWritten};
 ghost use Rattle.show_hello.specs.Listing.{read_rows, Listed};
 
 use show_lines::cursor::{Cursor, Line, line_at, next, part_end, start};
 use show_lines::grammar::{AFTER, END};
-use show_marks::{least, put_verdict};
-use show_words::{Spot, Stop, put_line};
-use words::{TABLE, told};
+use show_marks::put_verdict;
+use show_words::{Spot, put_line};
+use wire::Stop;
+use words::Shown;
 
 // The reader reads at most so many bytes, and no more are listed line by line.
 const MOST: usize = 16384;
@@ -22,9 +24,9 @@ const MOST: usize = 16384;
 const DIGITS: usize = 4;
 
 // Writes the line at the cursor.
-fn put_row(out: &mut [u8], hello: &[u8], c: Cursor, line: Line, number: u64, place: usize) -> usize
+fn put_row(out: &mut [u8], hello: &[u8], c: Cursor, line: Line, stop: Option<Stop>) -> usize
     requires { Ready (length hello.now) c × Reaches (length hello.now) c line }
-    ensures { LineWritten 4 hello.now (stop_from number place) (row c.at line.end c.what) result out.old out.new }
+    ensures { LineWritten 4 hello.now (stop_of stop) (row c.at line.end c.what) result out.old out.new }
 {
     let at = c.at;
     let end = line.end;
@@ -35,8 +37,13 @@ fn put_row(out: &mut [u8], hello: &[u8], c: Cursor, line: Line, number: u64, pla
         past: end,
         what: c.what,
     };
-    let t = told(number, c.what, &hello[at..end], line, left as u64);
-    put_line(out, hello, spot, Stop { number, place }, &TABLE, t)
+    let shown = Shown {
+        what: c.what,
+        bytes: &hello[at..end],
+        line,
+        left: left as u64,
+    };
+    put_line(out, hello, spot, stop, shown.told(stop))
 }
 
 fn last_what(at: usize, length: usize) -> usize {
@@ -44,9 +51,9 @@ fn last_what(at: usize, length: usize) -> usize {
 }
 
 // Writes the last line: the hello's end, or the bytes that are past what is read.
-fn put_end(out: &mut [u8], hello: &[u8], at: usize, number: u64, place: usize) -> usize
+fn put_end(out: &mut [u8], hello: &[u8], at: usize, stop: Option<Stop>) -> usize
     requires { at ≤ length hello.now }
-    ensures { LineWritten 4 hello.now (stop_from number place) (last_row hello.now at) result out.old out.new }
+    ensures { LineWritten 4 hello.now (stop_of stop) (last_row hello.now at) result out.old out.new }
 {
     let length = hello.len();
     let line = Line {
@@ -60,37 +67,37 @@ fn put_end(out: &mut [u8], hello: &[u8], at: usize, number: u64, place: usize) -
         past: length + 1,
         what: END,
     };
-    let t = told(
-        number,
-        last_what(at, length),
-        &hello[at..],
+    let shown = Shown {
+        what: last_what(at, length),
+        bytes: &hello[at..],
         line,
-        length as u64,
-    );
-    put_line(out, hello, spot, Stop { number, place }, &TABLE, t)
+        left: length as u64,
+    };
+    put_line(out, hello, spot, stop, shown.told(stop))
 }
 
 // Writes the lines of up to 16,384 bytes.
-fn put_lines(out: &mut [u8], hello: &[u8], number: u64, place: usize) -> usize
+fn put_lines(out: &mut [u8], hello: &[u8], stop: Option<Stop>) -> usize
     requires { length hello.now ≤ 16384 }
-    ensures { LinesWritten 4 hello.now (stop_from number place) (read_rows hello.now) result out.old out.new }
+    ensures { LinesWritten 4 hello.now (stop_of stop) (read_rows hello.now) result out.old out.new }
 {
     let mut c = start(hello);
     let mut used: usize = 0;
+    // A place and not an item: each line takes as many bytes as it has.
     while c.at < hello.len() {
         let line = line_at(hello, c);
-        used = used + put_row(&mut out[used..], hello, c, line, number, place);
+        used = used + put_row(&mut out[used..], hello, c, line, stop);
         c = next(hello, c, line);
     }
     used
 }
 
-// Writes the listing of any bytes, of which the reader's stop is known: its number, 0 where the hello is accepted, and its place.
-pub fn put_listing(out: &mut [u8], hello: &[u8], number: u64, place: usize) -> usize
-    ensures { Listed hello.now (stop_from number place) result out.old out.new }
+// Writes the listing of any bytes, of which the reader's stop is known.
+pub fn put_listing(out: &mut [u8], hello: &[u8], stop: Option<Stop>) -> usize
+    ensures { Listed hello.now (stop_of stop) result out.old out.new }
 {
-    let listed = least(hello.len(), MOST);
-    let n = put_verdict(out, DIGITS, number, place);
-    let m = n + put_lines(&mut out[n..], &hello[0..listed], number, place);
-    m + put_end(&mut out[m..], hello, listed, number, place)
+    let listed = hello.len().min(MOST);
+    let n = put_verdict(out, DIGITS, stop);
+    let m = n + put_lines(&mut out[n..], &hello[0..listed], stop);
+    m + put_end(&mut out[m..], hello, listed, stop)
 }

@@ -12,13 +12,17 @@ use Rattle.wire.proofs.ListLaws.{part_to_end, length-part-to-end, length_part}
 use Rattle.varint.specs.Varint.{Found}
 use Rattle.varint.proofs.ByteLaws.{number-one}
 use Rattle.varint.specs.declared.Varint.{Varint}
-use Rattle.varint.specs.declared.Got.TheVariants as got
+use Rattle.std.specs.Prelude.{Ok, Err}
+use Rattle.wire.specs.declared.refusals.Refusal.{Refusal}
 use Rattle.fingerprint_bodies.specs.Entries.{bind}
 use Rattle.fingerprint_bodies.specs.Body.{kind}
 use Rattle.fingerprint_bodies.specs.Forms.{varint_at}
 use Rattle.fingerprint.specs.Code.{slot}
 use Rattle.fingerprint_parameters.proofs.OneParameter.{head-within}
 use Rattle.show_lines.specs.Grammar.{grammar, column, body_line}
+use Rattle.show_lines.specs.Rows.{form_number}
+use Rattle.show_lines.specs.declared.grammar.Form.{Form}
+use Rattle.show_lines.specs.declared.grammar.Form.TheVariants as form
 use Rattle.show_lines.specs.Lines.{front_of, width_of, is_vector, part_end, line, parameter_front, fixed_front, line_from, line_of, line_at}
 use Rattle.show_lines.specs.Lines.{inside, settle, opened, due, next, Ready, Reaches}
 use Rattle.show_lines.specs.declared.cursor.Cursor.{Cursor}
@@ -53,16 +57,16 @@ module _ (at : ℕ) (bs : List ℕ) where
   abbrev Parameter : Line → Type 0
   Parameter l = l ≡ line_from 22 at bs (parameter_front bs)
 
-  pub no-id : (k : ℕ) → Found bs (got.Refused k) → Parameter (line (at + length bs) 0 0)
+  pub no-id : (k : Refusal) → Found bs (Err k) → Parameter (line (at + length bs) 0 0)
   unfolding parameter_front varint_at bind
   no-id k f = rw (← f.is)
 
-  module _ (id : Varint) (f : Found bs (got.Value id)) where
-    pub no_length : (k : ℕ) → Found (drop id.width bs) (got.Refused k) → Parameter (line (at + length bs) 0 0)
+  module _ (id : Varint) (f : Found bs (Ok id)) where
+    pub no_length : (k : Refusal) → Found (drop id.width bs) (Err k) → Parameter (line (at + length bs) 0 0)
     unfolding parameter_front varint_at bind
     no_length k g = rw (← f.is, ← g.is)
 
-    module _ (size : Varint) (g : Found (drop id.width bs) (got.Value size)) where
+    module _ (size : Varint) (g : Found (drop id.width bs) (Ok size)) where
       abbrev front : ℕ
       front = id.width + size.width
 
@@ -80,6 +84,16 @@ module _ (at : ℕ) (bs : List ℕ) where
       whole-front = rw (← f.is, ← g.is, after)
 
 -- ---- Any line, by the columns that were looked up
+
+pub no_vector : (f : Form) → (f ≡ form.Vector → ⊥) → form_number f ≡ 1 → ⊥
+no_vector form.Plain h e = omega (arith, e)
+no_vector form.Vector h e = h refl
+no_vector form.Opens h e = omega (arith, e)
+
+pub no-opens : (f : Form) → (f ≡ form.Opens → ⊥) → form_number f ≡ 2 → ⊥
+no-opens form.Plain h e = omega (arith, e)
+no-opens form.Vector h e = omega (arith, e)
+no-opens form.Opens h e = h refl
 
 module _ (what at : ℕ) (rest : List ℕ) where
   pub line-parameter : what ≡ 22 → line_from 22 at rest (parameter_front rest) ≡ line_of what rest at

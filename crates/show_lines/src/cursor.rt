@@ -6,14 +6,13 @@ ghost use Rattle.show_lines.specs.Lines.{part_end, line, line_from, parameter_fr
 ghost use Rattle.show_lines.specs.Lines.{after_list, after_body, in_hello};
 
 use crate::grammar::{
-    AFTER, COMPRESSION, END, EXTENSION, FORM, FRONT, INSIDE, MSG_TYPE, OPENS, PARAMETER, PART,
-    REST, SUITES, THEN, VECTOR, WIDTH, body_line, column,
+    AFTER, COMPRESSION, END, EXTENSION, Form, MSG_TYPE, PARAMETER, Part, REST, SUITES, body_line,
+    row_of,
 };
-use varint::Got;
-use wire::{be16, wide};
+use wire::be16;
 
 // A place in the hello, what stands there, and the ends of the parts around it: the list, the body and the block that were last opened.
-#[derive(Clone, Copy)]
+#[derive(Clone, Copy, PartialEq, Eq, Debug)]
 pub struct Cursor {
     pub at: usize,
     pub what: usize,
@@ -23,7 +22,7 @@ pub struct Cursor {
 }
 
 // A line: where it ends, the bytes of its front, 0 where these are cut, and the length that it says.
-#[derive(Clone, Copy)]
+#[derive(Clone, Copy, PartialEq, Eq, Debug)]
 pub struct Line {
     pub end: usize,
     pub front: usize,
@@ -34,12 +33,12 @@ pub struct Line {
 pub fn part_end(hello: &[u8], c: Cursor) -> usize
     ensures { result ≡ part_end (length hello.now) c }
 {
-    match column(c.what, PART) {
-        1 => c.list,
-        2 => c.block,
-        3 => c.body,
-        4 => c.list,
-        _ => hello.len(),
+    match row_of(c.what).part {
+        Part::Hello => hello.len(),
+        Part::Suites => c.list,
+        Part::Block => c.block,
+        Part::Body => c.body,
+        Part::List => c.list,
     }
 }
 
@@ -50,13 +49,13 @@ fn number(bytes: &[u8]) -> u64
 {
     let n = bytes.len();
     if n == 1 {
-        return wide(bytes[0]);
+        return u64::from(bytes[0]);
     }
     if n == 2 {
-        return be16(bytes) as u64;
+        return u64::from(be16(bytes));
     }
     if n == 3 {
-        return wide(bytes[0]) * 65536 + be16(&bytes[1..]) as u64;
+        return u64::from(bytes[0]) * 65536 + u64::from(be16(&bytes[1..]));
     }
     0
 }
@@ -67,7 +66,7 @@ fn parameter(rest: &[u8], at: usize) -> Line
     ensures { result ≡ line_from 22 at rest.now (parameter_front rest.now) }
 {
     let end = at + rest.len();
-    let Got::Value(id) = varint::read(rest) else {
+    let Ok(id) = varint::read(rest) else {
         return Line {
             end,
             front: 0,
@@ -75,7 +74,7 @@ fn parameter(rest: &[u8], at: usize) -> Line
         };
     };
     let w = id.width;
-    let Got::Value(length) = varint::read(&rest[w..]) else {
+    let Ok(length) = varint::read(&rest[w..]) else {
         return Line {
             end,
             front: 0,
@@ -112,7 +111,8 @@ fn line_of(what: usize, rest: &[u8], at: usize) -> Line
     if what == PARAMETER {
         return parameter(rest, at);
     }
-    let front = column(what, FRONT);
+    let kind = row_of(what);
+    let front = kind.front;
     if front == 0 {
         return Line {
             end: at + rest.len(),
@@ -127,15 +127,15 @@ fn line_of(what: usize, rest: &[u8], at: usize) -> Line
             said: 0,
         };
     }
-    let width = column(what, WIDTH);
+    let width = kind.width;
     let said = number(&rest[front - width..front]);
-    if column(what, FORM) == VECTOR {
-        return vector(rest.len(), at, front, said);
-    }
-    Line {
-        end: at + front,
-        front,
-        said,
+    match kind.form {
+        Form::Vector => vector(rest.len(), at, front, said),
+        _ => Line {
+            end: at + front,
+            front,
+            said,
+        },
     }
 }
 
@@ -177,24 +177,24 @@ fn in_hello(n: usize, at: usize, what: usize) -> usize
 fn settled(n: usize, c: Cursor) -> usize
     ensures { result ≡ specs.settled n c }
 {
-    match column(c.what, PART) {
-        1 => if c.at < c.list {
+    match row_of(c.what).part {
+        Part::Hello => in_hello(n, c.at, c.what),
+        Part::Suites => if c.at < c.list {
             c.what
         } else {
             in_hello(n, c.at, COMPRESSION)
         },
-        2 => after_body(n, c.at, c.block),
-        3 => if c.at < c.body {
+        Part::Block => after_body(n, c.at, c.block),
+        Part::Body => if c.at < c.body {
             c.what
         } else {
             after_body(n, c.at, c.block)
         },
-        4 => if c.at < c.list {
+        Part::List => if c.at < c.list {
             c.what
         } else {
             after_list(n, c.at, c.body, c.block)
         },
-        _ => in_hello(n, c.at, c.what),
     }
 }
 
@@ -221,39 +221,39 @@ fn inside(hello: &[u8], c: Cursor, line: Line) -> usize
             return AFTER;
         }
     }
-    column(c.what, INSIDE)
+    row_of(c.what).inside
 }
 
 // The cursor at the first line inside, where what is inside ends at `end`.
 fn opened(c: Cursor, at: usize, what: usize, end: usize) -> Cursor
     ensures { result ≡ specs.opened c at what end }
 {
-    match column(what, PART) {
-        1 => Cursor {
+    match row_of(what).part {
+        Part::Hello => Cursor { at, what, ..c },
+        Part::Suites => Cursor {
             at,
             what,
             list: end,
             ..c
         },
-        2 => Cursor {
+        Part::Block => Cursor {
             at,
             what,
             block: end,
             ..c
         },
-        3 => Cursor {
+        Part::Body => Cursor {
             at,
             what,
             body: end,
             ..c
         },
-        4 => Cursor {
+        Part::List => Cursor {
             at,
             what,
             list: end,
             ..c
         },
-        _ => Cursor { at, what, ..c },
     }
 }
 
@@ -268,7 +268,7 @@ fn due(hello: &[u8], c: Cursor) -> usize
             return AFTER;
         }
     }
-    column(c.what, THEN)
+    row_of(c.what).then
 }
 
 // The least of what is left after a line and what it says.
@@ -288,20 +288,23 @@ pub fn next(hello: &[u8], c: Cursor, line: Line) -> Cursor
     ensures { (result ≡ specs.next hello.now c line) × Ready (length hello.now) result × (c.at < result.at) }
 {
     let n = hello.len();
-    if column(c.what, FORM) == OPENS {
-        if 0 < line.front {
+    match row_of(c.what).form {
+        Form::Opens if 0 < line.front => {
             let end = inner_end(line, part_end(hello, c));
-            return settle(n, opened(c, line.end, inside(hello, c, line), end));
+            settle(n, opened(c, line.end, inside(hello, c, line), end))
+        }
+        _ => {
+            let what = due(hello, c);
+            settle(
+                n,
+                Cursor {
+                    at: line.end,
+                    what,
+                    ..c
+                },
+            )
         }
     }
-    settle(
-        n,
-        Cursor {
-            at: line.end,
-            what: due(hello, c),
-            ..c
-        },
-    )
 }
 
 // The cursor at the first line.

@@ -2,6 +2,10 @@
 
 ghost use Rattle.std.specs.Prelude.{◌≡◌};
 ghost use Rattle.show_lines.specs.Grammar as specs;
+ghost use Rattle.show_lines.specs.Rows.{Stands};
+
+use Form::{Opens, Plain, Vector};
+use Part::{Block, Body, Hello, List, Suites};
 
 // The kinds of lines.
 pub const MSG_TYPE: usize = 0;
@@ -26,67 +30,104 @@ pub const AFTER: usize = 25;
 
 pub const END: usize = 26;
 
-// The columns: bytes of a line's front, 0 where a line takes all that is left; how many of these, the last, are a length; whether what
-// is so long stands on the line itself (1) or on lines of its own (2); the part in which the line stands (0 the hello, 1 the suites, 2
-// the block, 3 a body, 4 its list); the kind of line inside; the kind that follows; the registry of its number.
-pub const FRONT: usize = 0;
+// Where those bytes stand whose count is a line's length: there are none, on the line itself, or on lines of their own.
+#[derive(Clone, Copy, PartialEq, Eq, Debug)]
+pub enum Form {
+    Plain,
+    Vector,
+    Opens,
+}
 
-pub const WIDTH: usize = 1;
+// The part in which a line stands.
+#[derive(Clone, Copy, PartialEq, Eq, Debug)]
+pub enum Part {
+    Hello,
+    Suites,
+    Block,
+    Body,
+    List,
+}
 
-pub const FORM: usize = 2;
+// The registries that name numbers.
+#[derive(Clone, Copy, PartialEq, Eq, Debug)]
+pub enum Registry {
+    Suites,
+    Groups,
+    Algorithms,
+    Types,
+    Versions,
+    Parameters,
+}
 
-pub const PART: usize = 3;
+// What may stand on a line: the bytes of its front, 0 where it takes all that is left; how many of these, the last, are a length; its
+// form and part; the kind of line inside, and the kind that follows; and the registry of its number.
+#[derive(Clone, Copy, PartialEq, Eq, Debug)]
+pub struct Row {
+    pub front: usize,
+    pub width: usize,
+    pub form: Form,
+    pub part: Part,
+    pub inside: usize,
+    pub then: usize,
+    pub registry: Option<Registry>,
+}
 
-pub const INSIDE: usize = 4;
-
-pub const THEN: usize = 5;
-
-pub const REGISTRY: usize = 6;
-
-pub const VECTOR: usize = 1;
-
-pub const OPENS: usize = 2;
-
-const GRAMMAR: [[usize; 7]; 27] = [
-    [1, 0, 0, 0, 0, 1, 0], // 0 msg_type
-    [3, 3, 0, 0, 0, 2, 0], // 1 length
-    [2, 0, 0, 0, 0, 3, 5], // 2 legacy_version
-    [32, 0, 0, 0, 0, 4, 0], // 3 random
-    [1, 1, 1, 0, 0, 5, 0], // 4 legacy_session_id
-    [2, 2, 2, 0, 6, 7, 0], // 5 cipher_suites
-    [2, 0, 0, 1, 0, 6, 1], // 6 suite
-    [1, 1, 1, 0, 0, 8, 0], // 7 legacy_compression_methods
-    [2, 2, 2, 0, 9, 25, 0], // 8 extension_block
-    [4, 2, 2, 2, 23, 9, 4], // 9 extension; inside is what its type says
-    [2, 2, 2, 3, 11, 24, 0], // 10 server_name_list
-    [3, 2, 1, 4, 0, 11, 0], // 11 server_name
-    [2, 2, 2, 3, 13, 24, 0], // 12 named_group_list
-    [2, 0, 0, 4, 0, 13, 2], // 13 group
-    [2, 2, 2, 3, 15, 24, 0], // 14 supported_signature_algorithms
-    [2, 0, 0, 4, 0, 15, 3], // 15 algorithm
-    [2, 2, 2, 3, 17, 24, 0], // 16 protocol_name_list
-    [1, 1, 1, 4, 0, 17, 0], // 17 protocol_name
-    [1, 1, 2, 3, 19, 24, 0], // 18 version_list
-    [2, 0, 0, 4, 0, 19, 5], // 19 version
-    [2, 2, 2, 3, 21, 24, 0], // 20 client_shares
-    [4, 2, 1, 4, 0, 21, 2], // 21 key_share
-    [0, 0, 1, 3, 0, 22, 6], // 22 parameter; its front is two varints
-    [0, 0, 0, 3, 0, 24, 0], // 23 body that is not read
-    [0, 0, 0, 3, 0, 24, 0], // 24 rest of a body
-    [0, 0, 0, 0, 0, 25, 0], // 25 rest of the hello
-    [0, 0, 0, 0, 0, 26, 0], // 26 end
-];
-
-// An entry of the table.
-pub fn column(what: usize, k: usize) -> usize
-    ensures { result ≡ specs.column what k }
+fn entry(
+    front: usize,
+    width: usize,
+    form: Form,
+    part: Part,
+    inside: usize,
+    then: usize,
+    registry: Option<Registry>,
+) -> Row
+    ensures { result ≡ record { front = front; width = width; form = form; part = part; inside = inside; then = then; registry = registry } }
 {
-    if what < 27 {
-        if k < 7 {
-            return GRAMMAR[what][k];
-        }
+    Row {
+        front,
+        width,
+        form,
+        part,
+        inside,
+        then,
+        registry,
     }
-    0
+}
+
+// The row of a kind of line.
+pub fn row_of(what: usize) -> Row
+    ensures { Stands what result }
+{
+    match what {
+        0 => entry(1, 0, Plain, Hello, 0, 1, None), // msg_type
+        1 => entry(3, 3, Plain, Hello, 0, 2, None), // length
+        2 => entry(2, 0, Plain, Hello, 0, 3, Some(Registry::Versions)), // legacy_version
+        3 => entry(32, 0, Plain, Hello, 0, 4, None), // random
+        4 => entry(1, 1, Vector, Hello, 0, 5, None), // legacy_session_id
+        5 => entry(2, 2, Opens, Hello, 6, 7, None), // cipher_suites
+        6 => entry(2, 0, Plain, Suites, 0, 6, Some(Registry::Suites)), // suite
+        7 => entry(1, 1, Vector, Hello, 0, 8, None), // legacy_compression_methods
+        8 => entry(2, 2, Opens, Hello, 9, 25, None), // extension_block
+        9 => entry(4, 2, Opens, Block, 23, 9, Some(Registry::Types)), // extension; inside is what its type says
+        10 => entry(2, 2, Opens, Body, 11, 24, None), // server_name_list
+        11 => entry(3, 2, Vector, List, 0, 11, None), // server_name
+        12 => entry(2, 2, Opens, Body, 13, 24, None), // named_group_list
+        13 => entry(2, 0, Plain, List, 0, 13, Some(Registry::Groups)), // group
+        14 => entry(2, 2, Opens, Body, 15, 24, None), // supported_signature_algorithms
+        15 => entry(2, 0, Plain, List, 0, 15, Some(Registry::Algorithms)), // algorithm
+        16 => entry(2, 2, Opens, Body, 17, 24, None), // protocol_name_list
+        17 => entry(1, 1, Vector, List, 0, 17, None), // protocol_name
+        18 => entry(1, 1, Opens, Body, 19, 24, None), // version_list
+        19 => entry(2, 0, Plain, List, 0, 19, Some(Registry::Versions)), // version
+        20 => entry(2, 2, Opens, Body, 21, 24, None), // client_shares
+        21 => entry(4, 2, Vector, List, 0, 21, Some(Registry::Groups)), // key_share
+        22 => entry(0, 0, Vector, Body, 0, 22, Some(Registry::Parameters)), // parameter; its front is two varints
+        23 => entry(0, 0, Plain, Body, 0, 24, None), // body that is not read
+        24 => entry(0, 0, Plain, Body, 0, 24, None), // rest of a body
+        25 => entry(0, 0, Plain, Hello, 0, 25, None), // rest of the hello
+        26 => entry(0, 0, Plain, Hello, 0, 26, None), // end
+        _ => entry(0, 0, Plain, Hello, 0, 0, None),
+    }
 }
 
 // The kind of line inside an extension, by the place of its type among those that are read.

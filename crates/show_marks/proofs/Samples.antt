@@ -2,7 +2,9 @@
 use mathlib.Core.Path.{◌≡◌, refl}
 use mathlib.Core.Bool.{true, false}
 use mathlib.Core.List.{[], ◌∷◌, map}
+use mathlib.Core.Option.{Option, none, some}
 use Prim.Native.Nat.{ℕ}
+use Rattle.wire.specs.Stops.{Stopped, stopped}
 use Rattle.wire.specs.Numbers.{digits}
 use Rattle.script.specs.Scan.{text}
 use Rattle.script_writing.specs.Digits.{places}
@@ -11,14 +13,14 @@ use Rattle.script_writing.specs.Hex.{hex_letter, hex_pair, hex_text}
 use Rattle.script_writing.proofs.AnswerLaws.{joined}
 use Rattle.script_writing.specs.Hex.{hex_digits}
 use Rattle.show_lines.specs.Lines.{row}
-use Rattle.show_marks.specs.Text.{stop_from, marks, place_parts, blanks, filling, short_parts, count_parts, run_parts, front_parts, verdict_parts}
+use Rattle.show_marks.specs.Text.{marks, place_parts, blanks, filling, short_parts, count_parts, run_parts, front_parts, verdict_parts}
 
 -- a stop before a line, at its first byte, at its last, and after it. Not of a program that marks the line at whose end the stop lies,
 -- and not of one that marks a line where nothing is refused.
-pub which-line : map (λ (place : ℕ). marks (stop_from 19 place) (row 4 6 2)) (3 ∷ 4 ∷ 5 ∷ 6 ∷ []) ≡ false ∷ true ∷ true ∷ false ∷ []
+pub which-line : map (λ (place : ℕ). marks (some (stopped 19 place)) (row 4 6 2)) (3 ∷ 4 ∷ 5 ∷ 6 ∷ []) ≡ false ∷ true ∷ true ∷ false ∷ []
 which-line = refl
 
-pub not-refused : marks (stop_from 0 4) (row 4 6 2) ≡ false
+pub not-refused : marks none (row 4 6 2) ≡ false
 not-refused = refl
 
 -- two bytes at 0x26. Not of a program that writes the line's end, 0028, or as many digits as the place has.
@@ -36,6 +38,6 @@ unfolding joined run_parts count_parts blanks filling digits places decimal_widt
 nine = refl
 
 -- not of a program that writes the place in decimal
-pub verdicts : map (λ (number : ℕ). joined (verdict_parts 4 (stop_from number 0x26))) (0 ∷ 19 ∷ []) ≡ text "accepted" ∷ text "refused 19 at 0026" ∷ []
+pub verdicts : map (λ (stop : Option Stopped). joined (verdict_parts 4 stop)) (none ∷ some (stopped 19 0x26) ∷ []) ≡ text "accepted" ∷ text "refused 19 at 0026" ∷ []
 unfolding joined digits places decimal_width decimal_digits decimal_text hex_digits hex_letter
 verdicts = refl

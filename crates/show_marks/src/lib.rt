@@ -2,57 +2,47 @@
 // which a listing begins.
 #![tactic(auto)]
 
-ghost use Rattle.std.specs.Prelude.{◌≤◌, min, ◌≡◌, length};
+ghost use Rattle.std.specs.Prelude.{◌≤◌, ◌≡◌, length};
 ghost use Rattle.script_writing.specs.Shown.{Written};
 ghost use Rattle.script_writing.specs.Answers.{WrittenAll};
 ghost use Rattle.show_marks.specs.Text as specs;
 ghost use Rattle.show_lines.specs.Lines.{row};
-ghost use Rattle.show_marks.specs.Text.{marks, stop_from, blanks, mark_text, place_parts, short_parts, count_parts, run_parts};
+ghost use Rattle.wire.specs.Stops.{stop_of};
+ghost use Rattle.show_marks.specs.Text.{marks, blanks, mark_text, place_parts, short_parts, count_parts, run_parts};
 ghost use Rattle.show_marks.specs.Text.{front_parts, verdict_parts};
 
 use script_writing::bytes::put_hex;
 use script_writing::numbers::put_digits;
 use script_writing::texts::{put_number, put_text};
+use wire::Stop;
 
 const BLANKS: [u8; 24] = [b' '; 24];
 
-// Whether the place at which the reader stopped lies in a line; a number of 0 stands for no refusal.
-pub fn is_marked(number: u64, place: usize, at: usize, end: usize) -> bool
-    ensures { result ≡ marks (stop_from number place) (row at end 0) }
+// Whether the place at which the reader stopped lies in a line.
+pub fn is_marked(stop: Option<Stop>, at: usize, end: usize) -> bool
+    ensures { result ≡ marks (stop_of stop) (row at end 0) }
 {
-    if number == 0 {
-        return false;
-    }
-    if place < at {
-        return false;
-    }
-    place < end
+    stop.is_some_and(|s| at <= s.place && s.place < end)
 }
 
 // Writes the first line of a listing: that all is accepted, or the number of the refusal and its place.
-pub fn put_verdict(out: &mut [u8], width: usize, number: u64, place: usize) -> usize
-    ensures { WrittenAll (verdict_parts width (stop_from number place)) result out.old out.new }
+pub fn put_verdict(out: &mut [u8], width: usize, stop: Option<Stop>) -> usize
+    ensures { WrittenAll (verdict_parts width (stop_of stop)) result out.old out.new }
 {
-    if number == 0 {
+    let Some(s) = stop else {
         return put_text(out, b"accepted");
-    }
-    let n = put_number(out, b"refused ", number);
+    };
+    let n = put_number(out, b"refused ", s.refusal.number());
     let m = n + put_text(&mut out[n..], b" at");
-    m + put_digits(&mut out[m..], width, place as u64)
-}
-
-pub fn least(a: usize, b: usize) -> usize
-    ensures { result ≡ min a b }
-{
-    if a < b { a } else { b }
+    m + put_digits(&mut out[m..], width, s.place as u64)
 }
 
 // Writes so many blanks, 24 at most.
 fn put_blanks(out: &mut [u8], n: usize) -> usize
     ensures { Written (blanks n) result out.old out.new }
 {
-    let k = least(n, 24);
-    put_text(out, &BLANKS[0..k])
+    let k = n.min(BLANKS.len());
+    put_text(out, &BLANKS[..k])
 }
 
 fn put_mark(out: &mut [u8], marked: bool) -> usize

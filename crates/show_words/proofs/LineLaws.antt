@@ -2,22 +2,21 @@
 use Prim.Native.Nat.{ℕ, ◌+◌, ◌-◌, ◌≤◌, min}
 use mathlib.Core.Path.{◌≡◌, refl, sym, ap, ap₂, ◌∙◌}
 use mathlib.Core.Logic.{⊎_elim}
-use mathlib.Core.Bool.{Bool, true, false, cond, false≢true}
+use mathlib.Core.Bool.{Bool, true, false, cond}
 use mathlib.Core.List.{List, [], ◌∷◌, ◌++◌, append_assoc, append-nil}
 use mathlib.Core.Option.{Option, none, some}
 use native.Mathlib.Omega.{arith}
 use borrow.Rule.Slice.PartMut.{mid_of, put_mid}
 use lib.ListN.{length, take, drop, length-drop}
 use lib.Seq.{take_all}
-use lib.Dec.{eqb}
-use Rattle.wire.specs.Stops.{Stopped, stopped}
+use Rattle.wire.specs.Stops.{Stopped}
 use Rattle.wire.proofs.ListLaws.{lt-or-le}
 use Rattle.script_writing.specs.Decimal.{decimal_text}
 use Rattle.script_writing.specs.Answers.{WrittenAll}
 use Rattle.script_writing.proofs.AnswerLaws.{written-more}
 use Rattle.script.specs.Scan.{text}
 use Rattle.show_lines.specs.Lines.{Row, row}
-use Rattle.show_marks.specs.Text.{marks, front_parts, reason_parts, bytes_of, stop_from, LineParts, LinesParts}
+use Rattle.show_marks.specs.Text.{marks, front_parts, reason_parts, bytes_of, LineParts, LinesParts}
 use Rattle.show_words.specs.Code.{LineWritten, LinesWritten}
 use Rattle.show_words.proofs.WroteLaws.{all_none}
 
@@ -39,32 +38,23 @@ least-bytes h at past end e =
     take_all (end - at) (drop at h) (rw length-drop one) ∙ sym (take_all (past - at) (drop at h) (rw length-drop other)))
     (lt-or-le past (length h))
 
--- a line is marked only where there is a stop
-stop-there : (t : Bool) (s : Stopped) (r : Row) (reason : List (List ℕ)) → true ≡ marks (cond t none (some s)) r
-    → reason_parts (cond t none (some s)) reason ≡ text "  -- " ∷ decimal_text s.number ∷ text ": " ∷ reason
-stop-there true s r reason m = absurd (false≢true (sym m))
-stop-there false s r reason m = refl
-
-module _ (width : ℕ) (h : List ℕ) (number place : ℕ) (r : Row) (bs : List ℕ) (same : bs ≡ bytes_of h r) (b : Bool)
-    (m : b ≡ marks (stop_from number place) r) where
-  line-is : (words reason parts : List (List ℕ))
-      → parts ≡ front_parts b width r.at bs ++ (words ++ cond b (reason_parts (stop_from number place) reason) [])
-      → LineParts width h (stop_from number place) r parts
+module _ (width : ℕ) (h : List ℕ) (stop : Option Stopped) (r : Row) (bs : List ℕ) (same : bs ≡ bytes_of h r) (b : Bool) (m : b ≡ marks stop r) where
+  line-is : (words reason parts : List (List ℕ)) → parts ≡ front_parts b width r.at bs ++ (words ++ cond b (reason_parts stop reason) [])
+      → LineParts width h stop r parts
   line-is words reason parts e =
       record {
         words = words;
         reason = reason;
         is = e
             ∙ ap₂
-            (λ (x : Bool) (l : List ℕ). front_parts x width r.at l ++ (words ++ cond x (reason_parts (stop_from number place) reason) []))
+            (λ (x : Bool) (l : List ℕ). front_parts x width r.at l ++ (words ++ cond x (reason_parts stop reason) []))
             m same;
       }
 
   module _ {n : ℕ} {old new : List ℕ} where
     pub line_plain : (words : List (List ℕ)) → b ≡ false → WrittenAll (front_parts b width r.at bs ++ words) n old new
-        → LineWritten width h (stop_from number place) r n old new
+        → LineWritten width h stop r n old new
     line_plain words f w =
-        let stop = stop_from number place in
         let none-there : words ++ cond b (reason_parts stop []) [] ≡ words =
         ap (λ (t : Bool). words ++ cond t (reason_parts stop []) []) f ∙ append-nil words in
         record {
@@ -73,22 +63,23 @@ module _ (width : ℕ) (h : List ℕ) (number place : ℕ) (r : Row) (bs : List 
           is = w;
         }
 
-    pub line_marked : (words reason : List (List ℕ)) → b ≡ true
-        → WrittenAll ((front_parts b width r.at bs ++ words) ++ (text "  -- " ∷ decimal_text number ∷ text ": " ∷ reason)) n old new
-        → LineWritten width h (stop_from number place) r n old new
-    line_marked words reason f w =
-        let stop = stop_from number place in
+    pub line_marked : (s : Stopped) → stop ≡ some s → (words reason : List (List ℕ)) → b ≡ true
+        → WrittenAll ((front_parts b width r.at bs ++ words) ++ (text "  -- " ∷ decimal_text s.number ∷ text ": " ∷ reason)) n old new
+        → LineWritten width h stop r n old new
+    line_marked s e words reason f w =
         let front : List (List ℕ) = front_parts b width r.at bs in
-        let why : List (List ℕ) = text "  -- " ∷ decimal_text number ∷ text ": " ∷ reason in
-        let there : cond b (reason_parts stop reason) [] ≡ why =
-        ap (λ (t : Bool). cond t (reason_parts stop reason) []) f
-        ∙ stop-there (eqb number 0) (stopped number place) r reason (sym f ∙ m) in
+        let why : List (List ℕ) = text "  -- " ∷ decimal_text s.number ∷ text ": " ∷ reason in
+        let there : cond b (reason_parts stop reason) [] ≡ why = rw (f, e) in
         record {
           parts = (front ++ words) ++ why;
           are = line-is words reason _
               (append_assoc front words why ∙ ap (λ (x : List (List ℕ)). front ++ (words ++ x)) (sym there));
           is = w;
         }
+
+-- no line is marked where there is no stop
+pub none-marked : (b : Bool) (stop : Option Stopped) (r : Row) → stop ≡ none → b ≡ marks stop r → b ≡ false
+none-marked b stop r e m = rw e at m
 
 -- ---- Lines one after the other
 

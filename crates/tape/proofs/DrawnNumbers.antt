@@ -4,7 +4,7 @@ use mathlib.Core.List.{[], ◌∷◌}
 use Prim.Native.Nat.{ℕ, ◌+◌, ◌/◌, ◌%◌, ◌^◌, ◌≤◌, ◌<◌}
 use native.Mathlib.Omega.{arith}
 use Rattle.wire.specs.Numbers.{digits}
-use Rattle.tape.specs.Tape.{raised, grease_id, payload_length}
+use Rattle.tape.specs.Tape.{raised, grease_id, payload_length, grease_byte}
 
 -- a raise makes the remainder 27
 pub raised-reserved : (x : ℕ) → raised x % 31 ≡ 27
@@ -47,3 +47,8 @@ four-digits v h =
     let a : v / 256 / 256 / 256 % 256 ≡ v / 16777216 = omega arith in
     let b : v / 256 / 256 % 256 ≡ v / 65536 % 256 = omega arith in
     rw (a, b)
+
+-- of a number a byte keeps what a GREASE byte is made of
+pub grease-byte-low : (x : ℕ) → grease_byte (x % 256) ≡ grease_byte x
+unfolding grease_byte
+grease-byte-low x = omega arith

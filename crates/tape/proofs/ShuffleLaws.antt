@@ -1,13 +1,15 @@
--- A shuffle is a permutation, and a shuffle of places is a shuffle of what stands there. Assumes nothing.
+-- A shuffle is a permutation: what holds of all elements holds after it, and it can be seen through a function. Assumes nothing.
 use mathlib.Core.Path.{◌≡◌, refl, sym, ap, ◌∙◌}
 use Prim.Native.Nat.{ℕ, zero, suc, ◌+◌, ◌-◌, ◌%◌, ◌≤◌, ◌<◌}
-use native.Mathlib.Nat.{le_of_suc-le-suc, not-suc-le-zero, mod-lt, zero-lt-suc}
+use native.Mathlib.Nat.{not-suc-le-zero, mod-lt, zero-lt-suc}
 use native.Mathlib.Numerals.{add-one}
 use native.Mathlib.Omega.{arith}
 use mathlib.Core.List.{List, [], ◌∷◌, map}
-use lib.ListN.{length, take, drop, set, get_or, length-map, get_or-map}
-use lib.Seq.{drop-cons, take-length}
-use Rattle.wire.specs.Sums.{total, Permutation, swapped}
+use native.Mathlib.Decide.{ℕ_discrete}
+use lib.ListN.{length, set, get_or, length-set, length-map, get_or-map}
+use lib.Seq.{get_or-set_same, get_or-set_other}
+use Rattle.std.specs.List.{swap, All}
+use Rattle.wire.specs.Sums.{Permutation, swapped}
 use Rattle.wire.proofs.ListLaws.{get_or-any-default}
 use Rattle.wire.proofs.SumLaws.{length-swapped, swapped-permutes, length-permutes}
 use Rattle.tape.specs.Tape.{next_u64, remainders, swaps, shuffle}
@@ -66,6 +68,12 @@ module _ {A : Type 0} where
   unfolding swapped
   swapped-default d e l i j h k = rw (get_or-any-default l j d e k, get_or-any-default l i d e h)
 
+  -- what `swap` of a slice does
+  pub swap-is : (d : A) (l : List A) (i j : ℕ) → i < length l → j < length l → swap l i j ≡ swapped d l i j
+  unfolding swapped
+  swap-is d [] i j h k = absurd (not-suc-le-zero h)
+  swap-is d (x ∷ l) i j h k = swapped-default x d (x ∷ l) i j h k
+
   swaps-default : (d e : A) (i : ℕ) (l : List A) (tape : List ℕ) (at : ℕ) → i < length l
       → swaps d i l (remainders i tape at) ≡ swaps e i l (remainders i tape at)
   swaps-default d e zero l tape at h = rw (swaps-none d l tape at, swaps-none e l tape at)
@@ -81,6 +89,42 @@ module _ {A : Type 0} where
   shuffle-default d e (x ∷ l) tape at =
       let q : suc (length l) - 1 ≡ length l = omega arith in
       rw q (swaps-default d e (length l) (x ∷ l) tape at (omega arith))
+
+-- ---- a property of the elements
+
+module _ {A : Type 0} (P : A → Type 0) (d : A) where
+  swapped-keeps : (l : List A) (i j : ℕ) → i < length l → j < length l → All P l → All P (swapped d l i j)
+  unfolding swapped
+  swapped-keeps l i j h k all n e m = go (ℕ_discrete n j) (ℕ_discrete n i)
+    where
+      first : List A
+      first = set l i (get_or l j d)
+
+      long : length first ≡ length l
+      long = length-set l i (get_or l j d)
+
+      below : n < length l
+      below = omega (arith, m, long, length-set first j (get_or l i d))
+
+      go : Dec (n ≡ j) → Dec (n ≡ i) → P (get_or (set first j (get_or l i d)) n e)
+      go (yes p) q = rw (p, get_or-set_same first j (get_or l i d) e (omega (arith, long))) (all i d h)
+      go (no p) (yes q) = rw (get_or-set_other first j n (get_or l i d) e p, q, get_or-set_same l i (get_or l j d) e h) (all j d k)
+      go (no p) (no q) = rw (get_or-set_other first j n (get_or l i d) e p, get_or-set_other l i n (get_or l j d) e q) (all n e below)
+
+  swaps-keeps : (i : ℕ) (l : List A) (tape : List ℕ) (at : ℕ) → i < length l → All P l → All P (swaps d i l (remainders i tape at))
+  swaps-keeps zero l tape at h all = rw (swaps-none d l tape at) all
+  swaps-keeps (suc i) l tape at h all =
+      let r : ℕ = next_u64 tape at % suc (suc i) in
+      let k : r ≤ suc i = remainder-within (next_u64 tape at) i in
+      rw (swaps-next d i l tape at)
+      (swaps-keeps i (swapped d l (suc i) r) tape (at + 8) (omega (arith, length-swapped d l (suc i) r)) (swapped-keeps l (suc i) r h (omega arith) all))
+
+  pub shuffle-keeps : (l : List A) (tape : List ℕ) (at : ℕ) → All P l → All P (shuffle d l tape at)
+  unfolding shuffle
+  shuffle-keeps [] tape at all = rw (swaps-none d [] tape at) all
+  shuffle-keeps (x ∷ l) tape at all =
+      let e : suc (length l) - 1 ≡ length l = omega arith in
+      rw e (swaps-keeps (length l) (x ∷ l) tape at (omega arith) all)
 
 -- ---- a function of the elements
 
@@ -104,66 +148,3 @@ module _ {A B : Type 0} (f : A → B) where
   pub shuffle-map : (d : A) (l : List A) (tape : List ℕ) (at : ℕ) → map f (shuffle d l tape at) ≡ shuffle (f d) (map f l) tape at
   unfolding shuffle
   shuffle-map d l tape at = rw (length-map l f) (swaps-map d (length l - 1) l (remainders (length l - 1) tape at))
-
--- ---- places
-
--- the places i, i + 1, .. of which there are n
-unfoldable pub upto : ℕ → ℕ → List ℕ
-upto i zero = []
-upto i (suc n) = i ∷ upto (suc i) n
-
-pub length-upto : (i n : ℕ) → length (upto i n) ≡ n
-unfolding upto
-length-upto i zero = refl
-length-upto i (suc n) = ap suc (length-upto (suc i) n)
-
-take-upto : (n m i : ℕ) → n ≤ m → take n (upto i m) ≡ upto i n
-unfolding upto
-take-upto zero m i h = refl
-take-upto (suc n) zero i h = absurd (not-suc-le-zero h)
-take-upto (suc n) (suc m) i h = ap (λ (l : List ℕ). i ∷ l) (take-upto n m (suc i) (le_of_suc-le-suc h))
-
--- the code's table of places, and its front as the code takes it
-abbrev pub first_places : List ℕ
-first_places = 0 ∷ 1 ∷ 2 ∷ 3 ∷ 4 ∷ 5 ∷ 6 ∷ 7 ∷ 8 ∷ 9 ∷ 10 ∷ 11 ∷ 12 ∷ 13 ∷ 14 ∷ 15 ∷ []
-
-pub first-places : (n : ℕ) → n ≤ 16 → take (n - 0) first_places ≡ upto 0 n
-unfolding upto
-first-places n h = let all : n - 0 ≡ n = omega arith in rw all (take-upto n 16 0 h)
-
-pub map-upto : {A : Type 0} (d : A) (l : List A) (i n : ℕ) → i + n ≤ length l → map (λ j. get_or l j d) (upto i n) ≡ take n (drop i l)
-unfolding upto
-map-upto d l i zero h = refl
-map-upto {A} d l i (suc n) h =
-    rw (drop-cons l i d (omega arith)) (ap (λ (r : List A). get_or l i d ∷ r) (map-upto d l (suc i) n (omega arith)))
-
--- what stands at the shuffled places is the shuffled list
-pub places-shuffle : {A : Type 0} (d : A) (l : List A) (tape : List ℕ) (at : ℕ)
-    → map (λ j. get_or l j d) (shuffle 0 (upto 0 (length l)) tape at) ≡ shuffle d l tape at
-places-shuffle {A} d l tape at =
-    shuffle-map (λ j. get_or l j d) 0 (upto 0 (length l)) tape at
-    ∙ shuffle-default (get_or l 0 d) d (map (λ j. get_or l j d) (upto 0 (length l))) tape at
-    ∙ ap (λ (r : List A). shuffle d r tape at) (map-upto d l 0 (length l) (omega arith) ∙ take-length l)
-
--- how far x is from being below n; a sum of these is 0 where all are below n
-abbrev excess : ℕ → ℕ → ℕ
-excess n x = suc x - n
-
-excess-upto : (n i k : ℕ) → i + k ≤ n → total (excess n) (upto i k) ≡ 0
-unfolding total upto
-excess-upto n i zero h = refl
-excess-upto n i (suc k) h = omega (arith, excess-upto n (suc i) k (omega arith))
-
-total-at : (f : ℕ → ℕ) (l : List ℕ) (j : ℕ) → j < length l → f (get_or l j 0) ≤ total f l
-unfolding total
-total-at f [] j h = absurd (not-suc-le-zero h)
-total-at f (x ∷ l) zero h = omega arith
-total-at f (x ∷ l) (suc j) h = omega (arith, total-at f l j (le_of_suc-le-suc h))
-
--- every shuffled place is a place
-pub shuffle-within : (n : ℕ) (tape : List ℕ) (at : ℕ) → (j : ℕ) → j < n → get_or (shuffle 0 (upto 0 n) tape at) j 0 < n
-shuffle-within n tape at j h =
-    let s : List ℕ = shuffle 0 (upto 0 n) tape at in
-    let long : length s ≡ n = length-shuffle 0 (upto 0 n) tape at ∙ length-upto 0 n in
-    let none : total (excess n) s ≡ 0 = sym (shuffle-permutes 0 (upto 0 n) tape at (excess n)) ∙ excess-upto n 0 n (omega arith) in
-    omega (arith, none, total-at (excess n) s j (omega arith))

@@ -3,27 +3,13 @@
 
 ghost use Rattle.std.specs.Prelude.{◌≡◌, ◌+◌, ◌%◌, ◌^◌, ◌≤◌, ◌<◌, length};
 ghost use Rattle.wire.specs.Front.{Put};
-ghost use Rattle.wire.specs.Sums.{swapped};
-ghost use Rattle.tape.specs.Tape.{rand_bytes, lowest_first, next_u64, shuffle, after_shuffle, grease_id, payload_length, grease_byte, version_information};
-
-use wire::wide;
+ghost use Rattle.tape.specs.Tape.{rand_bytes, next_u64, shuffle, after_shuffle, grease_id, payload_length, grease_byte, version_information};
 
 // What a writer that draws did: how many bytes it wrote, and the place on the tape after its last draw.
-#[derive(Clone, Copy)]
+#[derive(Clone, Copy, PartialEq, Eq, Debug)]
 pub struct Wrote {
     pub length: usize,
     pub next: usize,
-}
-
-// The four bytes from a place on as a number, lowest first.
-fn le32(tape: &[u8], at: usize) -> u64
-    requires { at + 4 ≤ length tape.now }
-    ensures { (result ≡ lowest_first (rand_bytes 4 tape.now at)) × (result < 4294967296) }
-{
-    wide(tape[at])
-        + 256 * wide(tape[at + 1])
-        + 65536 * wide(tape[at + 2])
-        + 16777216 * wide(tape[at + 3])
 }
 
 // The next 8 bytes as a number, lowest first.
@@ -31,7 +17,9 @@ pub fn next_u64(tape: &[u8], at: usize) -> u64
     requires { at + 8 ≤ length tape.now }
     ensures { (result ≡ next_u64 tape.now at) × (result < 2 ^ 64) }
 {
-    le32(tape, at) + 4294967296 * le32(tape, at + 4)
+    let mut bytes = [0; 8];
+    bytes.copy_from_slice(&tape[at..at + 8]);
+    u64::from_le_bytes(bytes)
 }
 
 // Copies the next n bytes to the front of the output.
@@ -39,18 +27,7 @@ pub fn rand_bytes(out: &mut [u8], tape: &[u8], at: usize, n: usize) -> usize
     requires { (n ≤ length out.old) × (at + n ≤ length tape.now) }
     ensures { Put (rand_bytes n tape.now at) result out.old out.new }
 {
-    let end = at + n;
-    wire::put_bytes(out, &tape[at..end])
-}
-
-fn swap(v: &mut [usize], i: usize, j: usize)
-    requires { (i < length v.old) × (j < length v.old) }
-    ensures { v.new ≡ swapped 0 v.old i j }
-{
-    let x = v[i];
-    let y = v[j];
-    v[i] = y;
-    v[j] = x;
+    wire::put_bytes(out, &tape[at..at + n])
 }
 
 // The draw at a place, as a place up to i.
@@ -61,23 +38,17 @@ fn place_up_to(tape: &[u8], at: usize, i: usize) -> usize
     (next_u64(tape, at) % (i as u64 + 1)) as usize
 }
 
-// The places of a list in order, with which a shuffle of its places begins. No list of a profile is longer.
-pub const PLACES: [usize; 16] = [0, 1, 2, 3, 4, 5, 6, 7, 8, 9, 10, 11, 12, 13, 14, 15];
-
 // Fisher-Yates, from the last place down to 1; gives the place on the tape after its last draw.
-pub fn shuffle(v: &mut [usize], tape: &[u8], at: usize) -> usize
+pub fn shuffle<T>(v: &mut [T], tape: &[u8], at: usize) -> usize
     requires { (length v.old < 65536) × (after_shuffle (length v.old) at ≤ length tape.now) }
-    ensures { (result ≡ after_shuffle (length v.old) at) × (v.new ≡ shuffle 0 v.old tape.now at) }
+    ensures { (result ≡ after_shuffle (length v.old) at) × ((d : T) → v.new ≡ shuffle d v.old tape.now at) }
 {
-    let mut i = v.len();
-    let mut t = at;
-    while 1 < i {
-        i = i - 1;
-        let j = place_up_to(tape, t, i);
-        swap(v, i, j);
-        t = t + 8;
+    let mut next = at;
+    for i in (1..v.len()).rev() {
+        v.swap(i, place_up_to(tape, next, i));
+        next += 8;
     }
-    t
+    next
 }
 
 // 2^61 plus the draw's low 58 bits, raised by 0 to 30 until it is 27 mod 31. The Rust's last correction never runs.
@@ -96,23 +67,30 @@ pub fn payload_length(draw: u64) -> usize
 }
 
 // The high half of a byte kept, the low half 0xa.
-fn grease_byte(b: u64) -> u8
+fn grease_byte(b: u8) -> u8
     ensures { result ≡ grease_byte b }
 {
-    (b / 16 % 16 * 16 + 10) as u8
+    b / 16 * 16 + 10
 }
 
 // The value of 0x11: the chosen version, four GREASE bytes of one draw, the chosen version among those that are available.
 pub fn version_information(version: u32, draw: u64) -> [u8; 12]
     ensures { result ≡ version_information version draw }
 {
-    let e = (version / 16777216) as u8;
-    let f = (version / 65536 % 256) as u8;
-    let g = (version / 256 % 256) as u8;
-    let h = (version % 256) as u8;
-    let a = grease_byte(draw);
-    let b = grease_byte(draw / 256);
-    let c = grease_byte(draw / 65536);
-    let d = grease_byte(draw / 16777216);
-    [e, f, g, h, a, b, c, d, e, f, g, h]
+    let [e, f, g, h] = version.to_be_bytes();
+    let [a, b, c, d, ..] = draw.to_le_bytes();
+    [
+        e,
+        f,
+        g,
+        h,
+        grease_byte(a),
+        grease_byte(b),
+        grease_byte(c),
+        grease_byte(d),
+        e,
+        f,
+        g,
+        h,
+    ]
 }

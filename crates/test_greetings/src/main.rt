@@ -5,26 +5,29 @@
 
 ghost use Rattle.std.specs.Prelude.{◌≤◌, length};
 
-use frames::cutting::{Cut, write_frames};
+use fingerprint::Fingerprint;
+use frames::cutting::write_frames;
 use std::io;
-use third_demand::{Outcome, two_greetings};
-use tls::Made;
+use third_demand::{Outcome, Side, two_greetings};
 use tls::making::generate_client_hello;
+use wire::Refusal;
 
 // The frames of a hello that is made here, at the front of the output: how many bytes they have.
 fn put_frames(browser: u64, name: &[u8], scid: &[u8], tape: &[u8], c: u64, out: &mut [u8]) -> usize
     ensures { result ≤ length out.old }
 {
     let mut hello = [0u8; 2048];
-    match generate_client_hello(browser, name, scid, tape, &mut hello) {
-        Made::Hello(made) => {
-            let end = made.length;
-            match write_frames(c, &hello[0..end], out) {
-                Cut::Length(length) => length,
-                Cut::Refused(_) => 0,
-            }
-        }
-        Made::Refused(_) => 0,
+    let Ok(made) = generate_client_hello(browser, name, scid, tape, &mut hello) else {
+        return 0;
+    };
+    write_frames(c, &hello[..made.length], out).unwrap_or(0)
+}
+
+// The number of the refusal; 0 where the hello was accepted.
+fn number_of(report: Result<Fingerprint, Refusal>) -> u64 {
+    match report {
+        Ok(_) => 0,
+        Err(refusal) => refusal.number(),
     }
 }
 
@@ -36,12 +39,8 @@ fn say(
     name2: &str,
     outcome: Outcome,
 ) -> io::Result<()> {
-    let first = outcome.first;
-    let second = outcome.second;
-    let report = first.report;
-    let report2 = second.report;
-    let number = report.number;
-    let number2 = report2.number;
+    let number = number_of(outcome.first.report);
+    let number2 = number_of(outcome.second.report);
     let alike = if outcome.alike { "yes" } else { "no" };
     println!(rt; "{browser} {browser2} {name} {name2} {number} {number2} {alike}")
 }
@@ -49,33 +48,33 @@ fn say(
 fn greet(rt: &impl Print, browser: u64, name: &str, browser2: u64, name2: &str) -> io::Result<()> {
     let tape = [0x11u8; 1808];
     let tape2 = [0xeeu8; 1808];
+    let scid = b"\x01\x02";
     let mut frames = [0u8; 4096];
     let mut frames2 = [0u8; 4096];
-    let n = put_frames(
-        browser,
-        name.as_bytes(),
-        b"\x01\x02",
-        &tape,
-        100,
-        &mut frames,
-    );
+    let n = put_frames(browser, name.as_bytes(), scid, &tape, 100, &mut frames);
     let m = put_frames(browser2, name2.as_bytes(), b"", &tape2, 700, &mut frames2);
+    let side = Side {
+        browser,
+        name: name.as_bytes(),
+        scid,
+        tape: &tape,
+        frames: &frames[..n],
+    };
+    let side2 = Side {
+        browser: browser2,
+        name: name2.as_bytes(),
+        scid: b"",
+        tape: &tape2,
+        frames: &frames2[..m],
+    };
     let mut hello = [0u8; 2048];
     let mut hello2 = [0u8; 2048];
     let mut out = [0xa5u8; 16384];
     let mut out2 = [0x5au8; 16384];
     let mut marks = [0xffu8; 16384];
     let outcome = two_greetings(
-        browser,
-        name.as_bytes(),
-        b"\x01\x02",
-        &tape,
-        &frames[0..n],
-        browser2,
-        name2.as_bytes(),
-        b"",
-        &tape2,
-        &frames2[0..m],
+        side,
+        side2,
         &mut hello,
         &mut out,
         &mut hello2,
@@ -86,11 +85,11 @@ fn greet(rt: &impl Print, browser: u64, name: &str, browser2: u64, name2: &str) 
 }
 
 fn main(rt: HostRuntime) -> io::Result<()> {
-    let mut i: u64 = 0;
-    while i < 9 {
-        greet(&rt, i / 3, "example.org", i % 3, "example.org")?;
-        greet(&rt, i / 3, "example.org", i % 3, "example.com")?;
-        i += 1;
+    for browser in 0..3 {
+        for browser2 in 0..3 {
+            greet(&rt, browser, "example.org", browser2, "example.org")?;
+            greet(&rt, browser, "example.org", browser2, "example.com")?;
+        }
     }
     Ok(())
 }

@@ -7,23 +7,15 @@ use std::io::Write;
 use std::rt::Files;
 use std::{fs, io};
 
-// Writes a byte so many times, up to 4,096.
-fn write_page(file: &mut impl Write, byte: u8, times: usize) -> io::Result<()> {
-    let page = [byte; 4096];
-    if times <= 4096 {
-        return file.write_all(&page[0..times]);
-    }
-    Ok(())
-}
+const PAGE: usize = 4096;
 
-// The same, any number of times.
+// Writes a byte so many times.
 fn write_run(file: &mut impl Write, byte: u8, times: usize) -> io::Result<()> {
-    let mut left = times;
-    while 4096 < left {
-        write_page(file, byte, 4096)?;
-        left -= 4096;
+    let page = [byte; PAGE];
+    for _ in 0..times / PAGE {
+        file.write_all(&page)?;
     }
-    write_page(file, byte, left)
+    file.write_all(&page[..times % PAGE])
 }
 
 fn make_file(rt: &impl Files, path: &str, times: usize) -> io::Result<()> {

@@ -3,22 +3,21 @@ use Prim.Native.Nat.{ℕ, ◌-◌, ◌≤◌, zero-le}
 use mathlib.Core.Path.{◌≡◌, refl, sym, ap, ap₂, subst, ◌∙◌}
 use mathlib.Core.List.{List, ◌++◌}
 use mathlib.Core.Option.{Option, none, some}
-use native.Mathlib.Omega.{arith}
 use lib.ListN.{length, take, drop, replicate}
+use Rattle.std.specs.Prelude.{Result, Ok, Err, Some, IfOk}
+use Rattle.std.specs.Result.{result_unwrap_or}
 use Rattle.wire.specs.Answer.{result}
+use Rattle.wire.specs.Refusals.{answer_of}
+use Rattle.wire.specs.declared.refusals.Refusal.{Refusal}
 use Rattle.wire.specs.Numbers.{Bytes}
-use Rattle.wire.proofs.AnswerLaws.{apart, same-result}
+use Rattle.wire.proofs.AnswerLaws.{ok-of}
 use Rattle.frames.specs.Frame.{encode_all}
-use Rattle.frames.specs.Join.{join_of, out_after, end_answer, JoinBounds, Joins}
+use Rattle.frames.specs.Join.{limit, join_of, out_after, Joins}
 use Rattle.frames.specs.Lists.{Carry}
-use Rattle.frames.specs.declared.joining.Joined.{Joined}
-use Rattle.frames.specs.declared.joining.Joined.TheVariants as joined
 use Rattle.frames.proofs.Results.{end-within}
-use Rattle.tls.specs.Make.{make_of, made_bytes, hello_answer, Makes}
+use Rattle.tls.specs.Make.{make_of, made_bytes, Makes}
 use Rattle.tls.proofs.Results.{answered, hello-taken}
 use Rattle.tls.specs.declared.Hello.{Hello}
-use Rattle.tls.specs.declared.Made.{Made}
-use Rattle.tls.specs.declared.Made.TheVariants as made-answer
 use Rattle.fingerprint_bodies.specs.Entries.{mapped}
 use Rattle.fingerprint_bodies.proofs.BindLaws.{none-some, same_some}
 use Rattle.fingerprint_lists.specs.Arrays.{Part, span_of}
@@ -27,10 +26,9 @@ use Rattle.fingerprint.specs.Reader.{read}
 use Rattle.fingerprint.specs.Report.{report, sni_of, shown, parsed_of}
 use Rattle.fingerprint.specs.InRange.{Inside, SniLies, InRange}
 use Rattle.fingerprint.specs.declared.Fingerprint.{Fingerprint}
-use Rattle.fingerprint.specs.declared.Sni.TheVariants.{At}
 use Rattle.alike.specs.Alike.{bytes_of, likeness, alike}
 use Rattle.third_demand.specs.Demand.{profile_likeness, Greeting, hello_of, front_of, received_of, Sent, Arrives}
-use Rattle.third_demand.specs.Run.{end_or0, Handed, handed, left_in, Went, Carried, Arrived, RunDemand, Ran}
+use Rattle.third_demand.specs.Run.{Handed, handed, left_in, Went, Carried, Arrived, RunDemand, Ran}
 use Rattle.third_demand.specs.declared.Greeted.{Greeted}
 use Rattle.third_demand.specs.declared.Outcome.{Outcome}
 use Rattle.third_demand.proofs.ThirdDemand.{third-demand}
@@ -38,29 +36,22 @@ use Rattle.third_demand.proofs.ThirdDemand.{third-demand}
 -- ---- The front part of the output
 
 -- it lies within the output
-pub end-inside : {bs out marks out' marks' : List ℕ} {r : Joined} → Joins bs out marks r out' marks' → end_or0 r ≤ length out
+pub end-inside : {bs out marks out' marks' : List ℕ} {r : Result ℕ Refusal} → Joins bs out marks r out' marks' → result_unwrap_or r 0 ≤ length out
 end-inside {bs} {out} {marks} {out'} {marks'} {r} j = go r j.is j.bounds
   where
-    go : (r : Joined) → end_answer r ≡ join_of bs out marks → JoinBounds r → end_or0 r ≤ length out
-    go (joined.End e) is b = end-within bs out marks e (sym is) b
-    go (joined.Refused n) is b = zero-le
+    go : (r : Result ℕ Refusal) → answer_of r ≡ join_of bs out marks → IfOk r (λ e. e ≤ limit) → result_unwrap_or r 0 ≤ length out
+    go (Ok e) is b = end-within bs out marks e (sym is) b
+    go (Err n) is b = zero-le
 
--- and is what a slice of it has, from 0 to the joiner's end
-pub front-part : (r : Joined) (n : ℕ) (out : List ℕ) → n ≡ end_or0 r → take (n - 0) out ≡ front_of (end_answer r) out
-front-part r n out e = let from : n - 0 ≡ end_or0 r = omega (arith, e) in rw from (go r)
-  where
-    go : (r : Joined) → take (end_or0 r) out ≡ front_of (end_answer r) out
-    go (joined.End e) = refl
-    go (joined.Refused n) = refl
+-- and is what a slice of it has, up to the joiner's end
+pub front-part : (r : Result ℕ Refusal) (out : List ℕ) → take (result_unwrap_or r 0) out ≡ front_of (answer_of r) out
+front-part (Ok e) out = refl
+front-part (Err n) out = refl
 
 -- ---- One side
 
-joined_end : (r : Joined) (n : ℕ) → end_answer r ≡ result n → r ≡ joined.End n
-joined_end (joined.End e) n q = ap joined.End (same-result e n q)
-joined_end (joined.Refused k) n q = absurd (apart q)
-
 -- what the maker wrote is the hello
-written : {browser : ℕ} {name scid tape old new : List ℕ} {r : Made} (h : Hello) → Makes browser name scid tape old r new
+written : {browser : ℕ} {name scid tape old new : List ℕ} {r : Result Hello Refusal} (h : Hello) → Makes browser name scid tape old r new
     → make_of browser name scid tape (length old) ≡ result h → take h.length new ≡ made_bytes browser name scid tape
 written {browser} {name} {scid} {tape} {old} h m e = ap (take h.length) m.output ∙ hello-taken browser name scid tape old h e
 
@@ -80,7 +71,7 @@ module _ {s : Handed} {marks : List ℕ} {r : Greeted} {hello out marks' : List 
       }
 
   made : make_of s.browser s.name s.scid s.tape (length s.hello) ≡ result c.answer
-  made = sym w.made.is ∙ ap hello_answer c.made
+  made = sym w.made.is ∙ ap answer_of c.made
 
   wrote : take c.answer.length hello ≡ hello_of greeting
   wrote = written c.answer w.made made
@@ -99,7 +90,7 @@ module _ {s : Handed} {marks : List ℕ} {r : Greeted} {hello out marks' : List 
       }
 
   -- what the joiner answered and left is what it answers and leaves of the frames
-  answer-is : end_answer r.joined ≡ join_of (encode_all c.frames) s.out marks
+  answer-is : answer_of r.joined ≡ join_of (encode_all c.frames) s.out marks
   answer-is = w.joined.is ∙ ap (λ (bs : List ℕ). join_of bs s.out marks) c.bytes
 
   output-is : out ≡ out_after (encode_all c.frames) s.out marks
@@ -111,14 +102,14 @@ module _ {s : Handed} {marks : List ℕ} {r : Greeted} {hello out marks' : List 
   pub arrived : Arrives greeting → Arrived s c.answer.length r hello out
   unfolding parsed_of
   arrived a =
-      let ended = joined_end r.joined c.answer.length (answer-is ∙ a.joined ∙ ap result long) in
-      let front : take c.answer.length out ≡ received_of greeting = ap (λ (j : Joined). front_of (end_answer j) out) (sym ended) ∙ received in
+      let ended = ok-of r.joined (answer-is ∙ a.joined ∙ ap result long) in
+      let front : take c.answer.length out ≡ received_of greeting = ap (λ (j : Result ℕ Refusal). front_of (answer_of j) out) (sym ended) ∙ received in
       record {
         joined = ended;
         output = output-is ∙ a.output ∙ ap₂ (λ (h : List ℕ) (n : ℕ). h ++ replicate (length s.out - n) 0) (sym wrote) long;
         value = a.value;
         accepted = ap read front ∙ a.accepted;
-        shows = rw (received, a.accepted) at w.report;
+        shows = ok-of r.report (rw (received, a.accepted) at w.report);
         reported = a.reported;
         ranges = subst (λ (h : List ℕ). InRange h (report a.value)) (sym front) a.ranges;
       }
@@ -128,10 +119,6 @@ module _ {s : Handed} {marks : List ℕ} {r : Greeted} {hello out marks' : List 
 abbrev pub handed_by : Greeting → List ℕ → Handed
 handed_by g before = handed g.browser g.name g.scid g.tape (encode_all g.frames) before g.out
 
-made-hello : (r : Made) (h : Hello) → hello_answer r ≡ result h → r ≡ made-answer.Hello h
-made-hello (made-answer.Hello k) h e = ap made-answer.Hello (same-result k h e)
-made-hello (made-answer.Refused n) h e = absurd (apart e)
-
 pub run-carried : {r : Greeted} {hello out marks' : List ℕ} (g : Greeting) (before : List ℕ) → Sent g → length before ≡ g.room
     → Went (handed_by g before) g.marks r hello out marks' → Carried (handed_by g before) g.marks r hello
 run-carried {r} {hello} g before s room w =
@@ -140,7 +127,7 @@ run-carried {r} {hello} g before s room w =
     let wrote : take answer.length hello ≡ hello_of g = written answer w.made is in
     record {
       answer = answer;
-      made = made-hello r.made answer (w.made.is ∙ is);
+      made = ok-of r.made (w.made.is ∙ is);
       frames = g.frames;
       bytes = refl;
       carry = rw wrote s.carried;
@@ -151,25 +138,34 @@ run-carried {r} {hello} g before s room w =
 -- ---- The name in the report
 
 -- the range that the report has for the name, and what stands there
-pub record NameStands (h name : List ℕ) (f : Fingerprint) : Type 0 where
+pub record NameIn (h name : List ℕ) (f : Fingerprint) : Type 0 where
   pub range : Span
-  pub is : f.sni ≡ At range
+  pub is : f.sni ≡ Some range
   pub inside : Inside h range
   pub bytes : take range.length (drop range.start h) ≡ name
 
-name_in : (h name : List ℕ) (f : Fingerprint) (o : Option Part) → f.sni ≡ sni_of o → some name ≡ mapped bytes_of o → SniLies h o → NameStands h name f
+name_in : (h name : List ℕ) (f : Fingerprint) (o : Option Part) → f.sni ≡ sni_of o → some name ≡ mapped bytes_of o → SniLies h o → NameIn h name f
 unfolding sni_of mapped
 name_in h name f none e same lies = absurd (none-some (sym same))
 name_in h name f (some p) e same lies =
     record { range = span_of p; is = e; inside = lies.inside; bytes = lies.is ∙ sym (same_some name p.bytes same) }
+
+-- there is a report, and it has the name so
+pub record NameStands (h name : List ℕ) (r : Result Fingerprint Refusal) : Type 0 where
+  pub shown : Fingerprint
+  pub there : r ≡ Ok shown
+  pub named : NameIn h name shown
 
 -- IN WHAT WAS JOINED THE NAME STANDS WHERE THE REPORT SAYS
 pub name-stands : {s : Handed} {n : ℕ} {r : Greeted} {hello out : List ℕ} → Arrived s n r hello out
     → NameStands (take n out) s.name r.report
 unfolding shown profile_likeness likeness
 name-stands {s} {n} {r} {hello} {out} a =
-    name_in (take n out) s.name r.report (report a.value).sni (ap (λ (f : Fingerprint). f.sni) a.shows) a.reported.name
-    a.ranges.sni-lies
+    record {
+      shown = shown (report a.value);
+      there = a.shows;
+      named = name_in (take n out) s.name (shown (report a.value)) (report a.value).sni refl a.reported.name a.ranges.sni-lies;
+    }
 
 -- ---- The run
 

@@ -8,10 +8,12 @@ use native.Mathlib.Omega.{arith}
 use lib.ListN.{length, take, get_or, replicate}
 use lib.Dec.{eqb, leb, lit<}
 use borrow.Author.Tests.{eqb-true}
+use Rattle.std.specs.Prelude.{Ok, Some}
 use Rattle.wire.specs.Answer.{result, refused}
+use Rattle.wire.specs.Refusals.{answer_of}
 use Rattle.wire.specs.Numbers.{digits, number_on, number}
 use Rattle.wire.specs.Front.{front}
-use Rattle.wire.proofs.AnswerLaws.{ask-yes, and_then-result}
+use Rattle.wire.proofs.AnswerLaws.{ask-yes, and_then-result, same-ok}
 use Rattle.wire.proofs.SumLaws.{and_right}
 use Rattle.varint.specs.Varint.{first_above, class, form, class_at, read_of}
 use Rattle.profiles.specs.Profile.{for_browser}
@@ -20,16 +22,16 @@ use Rattle.profiles.proofs.Table.{curl-tape}
 use Rattle.frames.specs.Frame.{encode, encode_all}
 use Rattle.frames.specs.Read.{read_crypto, read_frame}
 use Rattle.frames.specs.Stream.{has, byte_at, filled, held, end_of, each, values, agrees, gapless, stream}
-use Rattle.frames.specs.Join.{limit, place, place_all, close, join, join_of, end_answer}
+use Rattle.frames.specs.Join.{limit, place, place_all, close, join, join_of}
 use Rattle.frames.specs.Lists.{JoinedExactly}
 use Rattle.frames.specs.Cut.{cut_from, cut}
 use Rattle.frames.proofs.Joined.{in-buffers}
 use Rattle.tls.specs.Hello.{hello}
-use Rattle.tls.specs.Make.{plain, ask_name, ask_room, make_with, make_of, after_make, hello_answer}
+use Rattle.tls.specs.Make.{plain, ask_name, ask_room, make_with, make_of, after_make}
 use Rattle.fingerprint_lists.specs.Arrays.{span}
 use Rattle.fingerprint.specs.ClientHello.{ClientHello}
 use Rattle.fingerprint.specs.Reader.{read_extensions, read_fields, read}
-use Rattle.fingerprint.specs.declared.Sni.TheVariants.{At}
+use Rattle.fingerprint.specs.declared.Fingerprint.{Fingerprint}
 use Rattle.third_demand.specs.Run.{Handed, handed, Went, RunDemand}
 use Rattle.third_demand.specs.declared.Greeted.{Greeted}
 use Rattle.third_demand.specs.declared.Outcome.{Outcome}
@@ -44,11 +46,11 @@ side out = handed 2 (0x61 ∷ []) [] (replicate 416 0) (0x04 ∷ []) (replicate 
 
 module _ (out marks : List ℕ) (r : Greeted) (hello out' marks' : List ℕ) (w : Went (side out) marks r hello out' marks') where
   -- a run that makes from the connection id, which is empty, is refused with 8
-  pub made-from-tape : hello_answer r.made ≡ result (each-made 2 (lit< tt)).answer
+  pub made-from-tape : answer_of r.made ≡ result (each-made 2 (lit< tt)).answer
   made-from-tape = w.made.is ∙ (each-made 2 (lit< tt)).is
 
   -- a run that joins the tape, whose zeros are PADDING, ends at 0
-  pub frames-joined : limit ≤ length out → limit ≤ length marks → end_answer r.joined ≡ refused 11
+  pub frames-joined : limit ≤ length out → limit ≤ length marks → answer_of r.joined ≡ refused 11
   unfolding join_of join place_all read_frame
   frames-joined h k = w.joined.is ∙ rw (with-room out marks h k)
 
@@ -102,11 +104,13 @@ begins (suc n) (b ∷ h) name e k = ap (λ (l : List ℕ). get_or l 0 0) (sym e)
 -- question 6 lets only names through that begin with 33 or more
 pub not-at-start : {s t : Handed} {n m : ℕ} {r : Outcome} {hello out other-hello other-out : List ℕ}
     → RunDemand s t n m r hello out other-hello other-out → 33 ≤ get_or s.name 0 0 → (long : ℕ)
-    → r.first.report.sni ≡ At (span 0 long) → ⊥
-not-at-start {s} {t} {n} {m} {r} {hello} {out} d printed long e =
+    → (f : Fingerprint) → r.first.report ≡ Ok f → f.sni ≡ Some (span 0 long) → ⊥
+not-at-start {s} {t} {n} {m} {r} {hello} {out} d printed long f there e =
     let a = d.first in
-    let x = name-stands a in
-    let same : At x.range ≡ At (span 0 long) = sym x.is ∙ e in
+    let stands = name-stands a in
+    let x = stands.named in
+    let shown-is : stands.shown ≡ f = same-ok (sym stands.there ∙ there) in
+    let same : Some x.range ≡ Some (span 0 long) = sym x.is ∙ ap (λ (g : Fingerprint). g.sni) shown-is ∙ e in
     let range : x.range ≡ span 0 long = cc in
     let bytes : take long (take n out) ≡ s.name = rw range at x.bytes in
     omega (arith, begins long (take n out) s.name bytes (omega arith), first_byte (take n out) a.value a.accepted)

@@ -1,28 +1,21 @@
 -- What a run of two greetings promises: each call's answer and buffer by that call's definition, and the third demand of the run.
-use Rattle.std.specs.Prelude.{ℕ, ◌-◌, ◌≤◌, ◌≡◌, ◌↔◌, true, List, ◌++◌, length, take, replicate}
+use Rattle.std.specs.Prelude.{ℕ, ◌-◌, ◌≤◌, ◌≡◌, ◌↔◌, true, List, ◌++◌, length, take, replicate, Ok}
 use Rattle.wire.specs.Answer.{result}
+use Rattle.wire.specs.Refusals.{answer_of, told_of}
 use Rattle.profiles.specs.Profile.{for_browser}
 use Rattle.frames.specs.Frame.{Frame, encode_all}
-use Rattle.frames.specs.Join.{limit, marks_after, end_answer, Joins}
+use Rattle.frames.specs.Join.{limit, marks_after, Joins}
 use Rattle.frames.specs.Lists.{Carry}
-use Rattle.frames.specs.declared.joining.Joined.{Joined}
-use Rattle.frames.specs.declared.joining.Joined.TheVariants as joined
 use Rattle.tls.specs.Make.{Makes}
 use Rattle.tls.specs.declared.Hello.{Hello}
-use Rattle.tls.specs.declared.Made.TheVariants as made
 use Rattle.fingerprint.specs.ClientHello.{ClientHello}
 use Rattle.fingerprint.specs.Reader.{read}
-use Rattle.fingerprint.specs.Report.{report, shown, parsed_of}
+use Rattle.fingerprint.specs.Report.{report, empty_report, shown, parsed_of, told_report}
 use Rattle.fingerprint.specs.InRange.{InRange}
 use Rattle.alike.specs.Alike.{alike}
 use Rattle.third_demand.specs.Demand.{Reported, front_of}
 use Rattle.third_demand.specs.declared.Greeted.{Greeted}
 use Rattle.third_demand.specs.declared.Outcome.{Outcome}
-
--- how many bytes at the front of the output the joiner filled; none where it refused
-abbrev pub end_or0 : Joined → ℕ
-end_or0 (joined.End e) = e
-end_or0 (joined.Refused n) = 0
 
 -- what one side is handed: numbers and bytes, and what its two buffers hold
 pub record Handed : Type 0 where
@@ -40,14 +33,15 @@ handed browser name scid tape frames hello out =
 
 -- the front part of the output that reader and Alike get
 abbrev pub left_in : Greeted → List ℕ → List ℕ
-left_in r out = front_of (end_answer r.joined) out
+left_in r out = front_of (answer_of r.joined) out
 
 -- ---- One side
 
 pub record Went (s : Handed) (marks : List ℕ) (r : Greeted) (hello out marks' : List ℕ) : Type 0 where
   pub made : Makes s.browser s.name s.scid s.tape s.hello r.made hello
   pub joined : Joins s.frames s.out marks r.joined out marks'
-  pub report : r.report ≡ parsed_of (read (left_in r out))
+  pub report : answer_of r.report ≡ parsed_of (read (left_in r out))
+  pub tells : told_of (shown empty_report) r.report ≡ told_report (read (left_in r out))
 
 -- ---- The third demand of the run
 
@@ -55,7 +49,7 @@ pub record Went (s : Handed) (marks : List ℕ) (r : Greeted) (hello out marks' 
 -- cover it
 pub record Carried (s : Handed) (marks : List ℕ) (r : Greeted) (hello : List ℕ) : Type 0 where
   pub answer : Hello
-  pub made : r.made ≡ made.Hello answer
+  pub made : r.made ≡ Ok answer
   pub frames : List Frame
   pub bytes : s.frames ≡ encode_all frames
   pub carry : Carry frames (take answer.length hello)
@@ -66,11 +60,11 @@ pub record Carried (s : Handed) (marks : List ℕ) (r : Greeted) (hello : List �
 -- output, the struct handed out is the report of what it reads there, that report shows profile and name, and its names stand in the front
 -- part where their ranges say.
 pub record Arrived (s : Handed) (n : ℕ) (r : Greeted) (hello out : List ℕ) : Type 0 where
-  pub joined : r.joined ≡ joined.End n
+  pub joined : r.joined ≡ Ok n
   pub output : out ≡ take n hello ++ replicate (length s.out - n) 0
   pub value : ClientHello
   pub accepted : read (take n out) ≡ result value
-  pub shows : r.report ≡ shown 0 (report value)
+  pub shows : r.report ≡ Ok (shown (report value))
   pub reported : Reported (for_browser s.browser) s.name (report value)
   pub ranges : InRange (take n out) (report value)
 

@@ -2,21 +2,33 @@
 #![tactic(auto)]
 
 ghost use Rattle.std.specs.Prelude.{◌≡◌};
-ghost use Rattle.third_demand.specs.Run.{handed, Went, Ran, end_or0};
+ghost use Rattle.wire.specs.Numbers.{Bytes};
+ghost use Rattle.third_demand.specs.Run.{handed, Went, Ran};
 
 use alike::alike;
 use fingerprint::Fingerprint;
 use fingerprint::reading::parse_clienthello;
-use frames::joining::{Joined, reassemble_crypto};
-use tls::Made;
+use frames::joining::reassemble_crypto;
+use tls::Hello;
 use tls::making::generate_client_hello;
+use wire::Refusal;
+
+// What one side is handed: what its hello is made of, and the frames in which it is sent.
+#[derive(Clone, Copy)]
+pub struct Side<'a> {
+    pub browser: u64,
+    pub name: &'a [u8],
+    pub scid: &'a [u8],
+    pub tape: &'a [u8],
+    pub frames: &'a [u8],
+}
 
 // One greeting: what the maker answered, what the joiner answered, and the report of what it left.
 #[derive(Clone, Copy)]
 pub struct Greeted {
-    pub made: Made,
-    pub joined: Joined,
-    pub report: Fingerprint,
+    pub made: Result<Hello, Refusal>,
+    pub joined: Result<usize, Refusal>,
+    pub report: Result<Fingerprint, Refusal>,
 }
 
 // Both greetings, and whether what was joined is alike.
@@ -27,16 +39,8 @@ pub struct Outcome {
     pub alike: bool,
 }
 
-// How many bytes at the output's front the joiner filled: none where it refused.
-fn end_of(joined: Joined) -> usize
-    ensures { result ≡ end_or0 joined }
-{
-    match joined {
-        Joined::End(end) => end,
-        Joined::Refused(_) => 0,
-    }
-}
-
+// The parts of a side, one by one: of a slice in a struct it is not known that its elements are bytes, which the demand asks of connection
+// id and tape.
 fn greet(
     browser: u64,
     name: &[u8],
@@ -47,12 +51,12 @@ fn greet(
     out: &mut [u8],
     marks: &mut [u8],
 ) -> Greeted
-    ensures { Went (handed browser name.now scid.now tape.now frames.now hello.old out.old) marks.old result hello.new out.new marks.new }
+    ensures bytes { Bytes scid.now × Bytes tape.now }
+    ensures went { Went (handed browser name.now scid.now tape.now frames.now hello.old out.old) marks.old result hello.new out.new marks.new }
 {
     let made = generate_client_hello(browser, name, scid, tape, hello);
     let joined = reassemble_crypto(frames, out, marks);
-    let end = end_of(joined);
-    let report = parse_clienthello(&out[0..end]);
+    let report = parse_clienthello(&out[..joined.unwrap_or(0)]);
     Greeted {
         made,
         joined,
@@ -63,34 +67,41 @@ fn greet(
 // Makes two hellos at the front of `hello` and `hello2`, joins the frames of each into an output of its own, with one buffer for the
 // marks, reads the front parts of the outputs, and compares them. Each call is made, whatever the others answered.
 pub fn two_greetings(
-    browser: u64,
-    name: &[u8],
-    scid: &[u8],
-    tape: &[u8],
-    frames: &[u8],
-    browser2: u64,
-    name2: &[u8],
-    scid2: &[u8],
-    tape2: &[u8],
-    frames2: &[u8],
+    side: Side,
+    side2: Side,
     hello: &mut [u8],
     out: &mut [u8],
     hello2: &mut [u8],
     out2: &mut [u8],
     marks: &mut [u8],
 ) -> Outcome
-    ensures { Ran (handed browser name.now scid.now tape.now frames.now hello.old out.old) (handed browser2 name2.now scid2.now tape2.now frames2.now hello2.old out2.old) marks.old result hello.new out.new hello2.new out2.new marks.new }
+    ensures { Ran (handed side.entry.browser side.entry.name.now side.entry.scid.now side.entry.tape.now side.entry.frames.now hello.old out.old) (handed side2.entry.browser side2.entry.name.now side2.entry.scid.now side2.entry.tape.now side2.entry.frames.now hello2.old out2.old) marks.old result hello.new out.new hello2.new out2.new marks.new }
 {
-    let first = greet(browser, name, scid, tape, frames, hello, out, marks);
-    let second = greet(browser2, name2, scid2, tape2, frames2, hello2, out2, marks);
-    let joined = first.joined;
-    let joined2 = second.joined;
-    let end = end_of(joined);
-    let end2 = end_of(joined2);
-    let alike = alike(&out[0..end], &out2[0..end2]);
+    let first = greet(
+        side.browser,
+        side.name,
+        side.scid,
+        side.tape,
+        side.frames,
+        hello,
+        out,
+        marks,
+    );
+    let second = greet(
+        side2.browser,
+        side2.name,
+        side2.scid,
+        side2.tape,
+        side2.frames,
+        hello2,
+        out2,
+        marks,
+    );
+    let end = first.joined.unwrap_or(0);
+    let end2 = second.joined.unwrap_or(0);
     Outcome {
         first,
         second,
-        alike,
+        alike: alike(&out[..end], &out2[..end2]),
     }
 }

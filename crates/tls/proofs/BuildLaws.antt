@@ -1,9 +1,9 @@
 -- What the writers take from a profile, and extensions by type and in a row. Assumes nothing.
-use Prim.Native.Nat.{ℕ, ◌+◌, ◌-◌, ◌*◌, ◌≤◌, ◌<◌}
-use mathlib.Core.Path.{◌≡◌, refl}
+use Prim.Native.Nat.{ℕ, ◌+◌, ◌*◌, ◌≤◌, ◌<◌}
+use mathlib.Core.Path.{◌≡◌}
+use mathlib.Core.Logic.{◌≢◌}
 use mathlib.Core.Bool.{true}
-use mathlib.Core.List.{List, [], map}
-use native.Mathlib.Nat.{sub-zero}
+use mathlib.Core.List.{List}
 use native.Mathlib.Numerals.{add-one}
 use native.Mathlib.Omega.{arith}
 use denote.Laws.{Is}
@@ -12,22 +12,20 @@ use mir.Val.{Val}
 use lib.ListN.{length, take, drop, get_or}
 use lib.Seq.{drop-cons, length-take-le}
 use Rattle.wire.specs.Front.{Put}
-use Rattle.wire.proofs.FrontLaws.{front-none}
 use Rattle.profiles.specs.Profile.{Parameter, varint, bytes, version_info, scid_source, grease, Profile}
 use Rattle.profiles.specs.Test.{parameter_ok, passes}
-use Rattle.profiles.specs.Code.{type_number, profile_of, Sound}
+use Rattle.profiles.specs.Code.{profile_of, Sound}
 use Rattle.profiles.specs.declared.Profile as code
 use Rattle.profiles.specs.contracts.Profile.{the_type}
 use Rattle.profiles.proofs.TestLaws.{all-at, passed, varint-ok, bytes_ok, version-info-ok, scid-source-ok}
-use Rattle.tape.specs.Part.{Part, undrawn, followed, Room, Puts}
+use Rattle.tape.specs.Part.{undrawn, followed, Room, Puts}
 use Rattle.tape.specs.declared.Wrote.{Wrote}
-use Rattle.tls_extensions.specs.Extensions.{ext_u16_list}
+use Rattle.tls_extensions.specs.Extensions.{ext_u16_list, fixed_extension}
 use Rattle.tls_extensions.proofs.LengthLaws.{length-u16-list}
 use Rattle.tls_parameters.specs.Writing.{HasVarints, AllVarints}
 use Rattle.tls.specs.Hello.{build_extension, build_extensions}
-use Rattle.tls.specs.Writing.{types_at}
 
--- ---- a list of a profile: the first k of an array of n, lent as `&list[0..k]`
+-- ---- a list of a profile: the first k of an array of n, lent as `&list[..k]`
 
 -- what owning a profile tells of its arrays
 pub record Arrays (p : code.Profile) : Type 0 where
@@ -54,15 +52,12 @@ arrays p owned =
       parameters = each.1.1.1.1.1.1.1.1.1.1.1.1.1.0.1.0.1;
     }
 
-pub length-lent : (list : List ℕ) {k : ℕ} → k ≤ length list → length (take (k - 0) list) ≡ k
-length-lent list {k} h = rw (sub-zero k) (length-take-le k list h)
-
 -- what `ext_u16_list` asks for
 pub words-room : (t : ℕ) (list : List ℕ) {k room : ℕ} → k ≤ length list → k ≤ 16 → length (ext_u16_list t (take k list)) ≤ room
-    → (6 + 2 * length (take (k - 0) list) ≤ room) × (2 * length (take (k - 0) list) < 65530)
+    → (6 + 2 * length (take k list) ≤ room) × (2 * length (take k list) < 65530)
 words-room t list {k} h few fits =
-    let long = length-lent list h in
-    (omega (arith, length-u16-list t (take k list), length-take-le k list h), omega arith)
+    let long = length-take-le k list h in
+    (omega (arith, length-u16-list t (take k list)), omega arith)
 
 -- ---- a writer that draws nothing
 
@@ -72,26 +67,21 @@ undrawn-puts p s = record { put = rw s.0 p; next = s.1 }
 pub undrawn-room : {bs : List ℕ} {n at room tape : ℕ} → length bs ≡ n → Room (undrawn bs at) room tape → n ≤ room
 undrawn-room e r = rw e at r.fits
 
--- nothing is written
-pub put-none : (old : List ℕ) → Put [] 0 old old
-put-none old = record { count = refl; output = front-none old }
+-- a type that none of the writers above is for
+pub build-fixed : (p : Profile) (name scid tape : List ℕ) (t at : ℕ)
+    → t ≢ 0 → t ≢ 16 → t ≢ 10 → t ≢ 13 → t ≢ 43 → t ≢ 51 → t ≢ 57 → t ≢ 27 → t ≢ 65037
+    → build_extension p name scid tape t at ≡ undrawn (fixed_extension t) at
+unfolding build_extension
+build-fixed p name scid tape t at h0 h1 h2 h3 h4 h5 h6 h7 h8 = grind (arith, h0, h1, h2, h3, h4, h5, h6, h7, h8)
 
 -- ---- extensions in a row
 
--- the extensions at the places that an order lists
-abbrev pub extensions_of : code.Profile → List ℕ → List ℕ → List ℕ → List ℕ → ℕ → Part
-extensions_of p name scid tape order at = build_extensions (profile_of p) name scid tape (types_at (map type_number p.extensions_order) order) at
-
--- the one at place i of the order
-abbrev pub extension_at : code.Profile → List ℕ → List ℕ → List ℕ → List ℕ → ℕ → ℕ → Part
-extension_at p name scid tape order i at = build_extension (profile_of p) name scid tape (get_or (map type_number p.extensions_order) (get_or order i 0) 0) at
-
 -- from place i on: the one at i, and those after it
-pub extensions-from : (p : code.Profile) (name scid tape order : List ℕ) (i t : ℕ) → i < length order
-    → extensions_of p name scid tape (drop i order) t
-    ≡ followed (extension_at p name scid tape order i t) (extensions_of p name scid tape (drop (i + 1) order))
-unfolding build_extensions types_at
-extensions-from p name scid tape order i t h = rw (add-one, drop-cons order i 0 h)
+pub extensions-from : (p : Profile) (name scid tape types : List ℕ) (i t : ℕ) → i < length types
+    → build_extensions p name scid tape (drop i types) t
+    ≡ followed (build_extension p name scid tape (get_or types i 0) t) (build_extensions p name scid tape (drop (i + 1) types))
+unfolding build_extensions
+extensions-from p name scid tape types i t h = rw (add-one, drop-cons types i 0 h)
 
 -- ---- transport parameters
 

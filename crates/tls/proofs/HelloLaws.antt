@@ -15,6 +15,7 @@ use Rattle.wire.proofs.Writing.{Writing, lent_from, back_from, filled, writes, f
 use Rattle.profiles.specs.Profile.{Profile}
 use Rattle.profiles.specs.Sizes.{session_length, after_order}
 use Rattle.profiles.specs.Code.{type_number, profile_of, Sound}
+use Rattle.profiles.specs.declared.ExtType.{ExtType}
 use Rattle.profiles.specs.declared.Profile as code
 use Rattle.tape.specs.Tape.{rand_bytes}
 use Rattle.tape.specs.Part.{Puts}
@@ -22,7 +23,7 @@ use Rattle.tape.specs.declared.Wrote.{Wrote}
 use Rattle.tape.proofs.DrawLaws.{length-rand_bytes}
 use Rattle.tape.proofs.PartLaws.{headed-part}
 use Rattle.tls.specs.Hello.{build_extensions, fields, block, body, hello}
-use Rattle.tls.specs.Writing.{types_at, ExtensionsRoom, counted_block, BlockRoom, BodyRoom, HelloRoom}
+use Rattle.tls.specs.Writing.{ExtensionsRoom, counted_block, BlockRoom, BodyRoom, HelloRoom}
 use Rattle.tls.proofs.OrderLaws.{Ordered}
 
 -- ---- the fields before the extensions
@@ -100,31 +101,28 @@ module _ (p : code.Profile) (name scid tape : List ℕ) where
   abbrev extensions : List ℕ
   extensions = (block P name scid tape).bytes
 
-  module _ {places : List ℕ} {next : ℕ} (o : Ordered p tape places next) where
-    block-is : build_extensions P name scid tape (types_at (map type_number p.extensions_order) places) next ≡ block P name scid tape
+  module _ {types : List ExtType} {next : ℕ} (o : Ordered p tape types next) where
+    block-is : build_extensions P name scid tape (map type_number types) next ≡ block P name scid tape
     unfolding block
-    block-is = rw (o.types, o.after)
+    block-is = rw (o.is, o.after)
 
-    pub extensions-room : (old : List ℕ) → BlockRoom p name scid tape (length old) → ExtensionsRoom p places name scid tape next (length (lent_from 2 old))
+    pub extensions-room : (old : List ℕ) → BlockRoom p name scid tape (length old) → ExtensionsRoom p types name scid tape next (length (lent_from 2 old))
     extensions-room old r =
         let count : length (vector 2 extensions) ≡ 2 + length extensions = length-vector 2 extensions in
         record {
-          places = o.below;
-          part = record {
-            sound = r.sound;
-            short_name = r.short_name;
-            short_id = r.short_id;
-            has = rw block-is
-                record {
-                  fits = omega (arith, r.has.fits, length-part-to-end old 2);
-                  small = omega (arith, r.has.small);
-                  there = r.has.there;
-                };
-          };
+          sound = r.sound;
+          short_name = r.short_name;
+          short_id = r.short_id;
+          has = rw block-is
+              record {
+                fits = omega (arith, r.has.fits, length-part-to-end old 2);
+                small = omega (arith, r.has.small);
+                there = r.has.there;
+              };
         }
 
     module _ (old : List ℕ) {part : List ℕ} {w : Wrote} (r : BlockRoom p name scid tape (length old))
-        (q : Puts (build_extensions (profile_of p) name scid tape (types_at (map type_number p.extensions_order) places) next) w (lent_from 2 old) part) where
+        (q : Puts (build_extensions (profile_of p) name scid tape (map type_number types) next) w (lent_from 2 old) part) where
       put-block : Puts (block P name scid tape) w (lent_from 2 old) part
       put-block = rw block-is at q
 

@@ -1,23 +1,21 @@
 -- The name's questions, 5 and 6: what callers cite of them is `before-name`, `named-bytes` and `named`. Assumes nothing.
 use Prim.Native.Nat.{ℕ, zero, suc, ◌+◌, ◌≤◌, ◌<◌}
-use mathlib.Core.Path.{◌≡◌, refl, sym, ◌∙◌}
+use mathlib.Core.Path.{◌≡◌, refl, sym}
 use mathlib.Core.Bool.{Bool, true, ◌&&◌, and-true, and_assoc}
 use mathlib.Core.List.{List, [], ◌∷◌, ◌++◌}
-use native.Mathlib.Decide.{ℕ_discrete}
 use native.Mathlib.Numerals.{add-one}
 use native.Mathlib.Omega.{arith}
 use lib.ListN.{length, take, get_or}
 use lib.Seq.{take-suc}
-use lib.Dec.{leb, lit≤, lit<}
+use lib.Dec.{leb, lit<}
 use borrow.Author.Tests.{leb-true}
 use Rattle.wire.specs.Answer.{Answer, result}
 use Rattle.wire.specs.Numbers.{Bytes}
-use Rattle.wire.proofs.AnswerLaws.{apart}
+use Rattle.wire.proofs.AnswerLaws.{ask-yes}
 use Rattle.wire.proofs.SumLaws.{and_left, and_right}
 use Rattle.profiles.specs.Test.{all}
 use Rattle.tls.specs.Make.{plain, ask_name}
-use Rattle.tls.specs.Writing.{number_of}
-use Rattle.tls.proofs.QuestionLaws.{Before, none, more, yes-to}
+use Rattle.tls.proofs.QuestionLaws.{Before, none, more}
 
 -- ---- each byte 33 to 126
 
@@ -61,7 +59,7 @@ as_name name = ask_name name (result tt)
 pub before-name : {A : Type 0} (next : Answer A) (name : List ℕ) → Before next (ask_name name next) (as_name name)
 unfolding ask_name
 before-name next name =
-    more (leb 1 (length name) && leb (length name) 255) 5 (lit≤ tt, lit≤ tt) (more (plain name) 6 (lit≤ tt, lit≤ tt) (none next))
+    more (leb 1 (length name) && leb (length name) 255) 5 (more (plain name) 6 (none next))
 
 -- what passes is 1 to 255 bytes
 pub record Named (name : List ℕ) : Type 0 where
@@ -69,22 +67,21 @@ pub record Named (name : List ℕ) : Type 0 where
   pub short : length name ≤ 255
   pub bytes : Bytes name
 
-pub named : (name : List ℕ) → number_of (as_name name) ≡ 0 → Named name
-unfolding ask_name
-named name z =
-    let n = length name in
-    let five = yes-to (leb 1 n && leb n 255) 5 _ (lit≤ tt, lit≤ tt) z in
-    let six = yes-to (plain name) 6 (result tt) (lit≤ tt, lit≤ tt) five.1 in
-    record {
-      some = leb-true 1 n (and_left (leb 1 n) (leb n 255) five.0);
-      short = leb-true n 255 (and_right (leb 1 n) (leb n 255) five.0);
-      bytes = plain-bytes name six.0;
-    }
-
--- the same where a result stands behind the questions
+-- they are answered "yes" where a result stands behind them
 pub named-bytes : {A : Type 0} (name : List ℕ) (next : Answer A) (a : A) → ask_name name next ≡ result a → Named name × (next ≡ result a)
-named-bytes name next a e = go (ℕ_discrete (number_of (as_name name)) 0)
-  where
-    go : Dec (number_of (as_name name) ≡ 0) → Named name × (next ≡ result a)
-    go (yes z) = (named name z, sym ((before-name next name).yes z) ∙ e)
-    go (no h) = absurd (apart (sym ((before-name next name).no h).0 ∙ e))
+unfolding ask_name
+named-bytes name next a e =
+    let n = length name in
+    let five = ask-yes (leb 1 n && leb n 255) 5 _ a e in
+    let six = ask-yes (plain name) 6 next a five.1 in (
+      record {
+        some = leb-true 1 n (and_left (leb 1 n) (leb n 255) five.0);
+        short = leb-true n 255 (and_right (leb 1 n) (leb n 255) five.0);
+        bytes = plain-bytes name six.0;
+      },
+      six.1,
+    )
+
+-- the same of the questions by themselves
+pub named : (name : List ℕ) → as_name name ≡ result tt → Named name
+named name e = (named-bytes name (result tt) tt e).0

@@ -1,14 +1,14 @@
 -- `generate_client_hello` as a call (document 01, questions 4 to 9).
-use Rattle.std.specs.Prelude.{ℕ, ◌≤◌, ◌≡◌, Bool, ◌&&◌, List, length, ltb, leb}
-use Rattle.wire.specs.Answer.{Answer, result, refused, Told, told, ask, unless_refused, IsNumber}
+use Rattle.std.specs.Prelude.{ℕ, ◌≤◌, ◌≡◌, Bool, ◌&&◌, List, length, ltb, leb, Result, IfOk}
+use Rattle.wire.specs.Answer.{Answer, result, told, ask, unless_refused}
+use Rattle.wire.specs.Refusals.{answer_of, told_of}
+use Rattle.wire.specs.declared.refusals.Refusal.{Refusal}
 use Rattle.wire.specs.Front.{front}
 use Rattle.profiles.specs.Profile.{Profile, for_browser}
 use Rattle.profiles.specs.Sizes.{longest, tape_needed}
 use Rattle.profiles.specs.Test.{all}
 use Rattle.tls.specs.Hello.{hello}
 use Rattle.tls.specs.declared.Hello.{Hello}
-use Rattle.tls.specs.declared.Made.{Made}
-use Rattle.tls.specs.declared.Made.TheVariants as made
 
 -- "Each byte 33 to 126"
 unfoldable pub plain : List ℕ → Bool
@@ -48,31 +48,22 @@ unfoldable pub after_make : ℕ → List ℕ → List ℕ → List ℕ → List 
 after_make browser name scid tape out =
     unless_refused (make_of browser name scid tape (length out)) (λ h. front (made_bytes browser name scid tape) out) out
 
--- ---- What the answer of the code says, and its promise
+-- ---- The promise, first the meaning, as an answer and in numbers, then the bounds that a caller needs
 
-abbrev pub hello_answer : Made → Answer Hello
-hello_answer (made.Hello h) = result h
-hello_answer (made.Refused n) = refused n
-
--- the number and the values of each case; a refusal has length 0 and drawn 0
+-- a refusal has length 0 and drawn 0
 abbrev pub no_hello : Hello
 no_hello = record { length = 0; drawn = 0 }
 
-abbrev pub hello_told : Made → Told Hello
-hello_told (made.Hello h) = record { number = 0; values = h }
-hello_told (made.Refused n) = record { number = n; values = no_hello }
+abbrev pub MadeBounds : ℕ → ℕ → Result Hello Refusal → Type 0
+MadeBounds room tape r = IfOk r (λ h. (h.length ≤ room) × (h.drawn ≤ tape))
 
-abbrev pub MadeBounds : ℕ → ℕ → Made → Type 0
-MadeBounds room tape (made.Hello h) = (h.length ≤ room) × (h.drawn ≤ tape)
-MadeBounds room tape (made.Refused n) = IsNumber n
-
-pub record MakesWith (p : Profile) (name scid tape old : List ℕ) (r : Made) (new : List ℕ) : Type 0 where
-  pub is : hello_answer r ≡ make_with p name scid tape (length old)
+pub record MakesWith (p : Profile) (name scid tape old : List ℕ) (r : Result Hello Refusal) (new : List ℕ) : Type 0 where
+  pub is : answer_of r ≡ make_with p name scid tape (length old)
   pub output : new ≡ after_make_with p name scid tape old
   pub bounds : MadeBounds (length old) (length tape) r
 
-pub record Makes (browser : ℕ) (name scid tape old : List ℕ) (r : Made) (new : List ℕ) : Type 0 where
-  pub is : hello_answer r ≡ make_of browser name scid tape (length old)
-  pub tells : hello_told r ≡ told no_hello (make_of browser name scid tape (length old))
+pub record Makes (browser : ℕ) (name scid tape old : List ℕ) (r : Result Hello Refusal) (new : List ℕ) : Type 0 where
+  pub is : answer_of r ≡ make_of browser name scid tape (length old)
+  pub tells : told_of no_hello r ≡ told no_hello (make_of browser name scid tape (length old))
   pub output : new ≡ after_make browser name scid tape old
   pub bounds : MadeBounds (length old) (length tape) r

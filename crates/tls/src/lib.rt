@@ -6,14 +6,8 @@ pub mod building;
 pub mod making;
 
 // A hello's length, and how many bytes of the tape were drawn for it.
-#[derive(Clone, Copy)]
+#[derive(Clone, Copy, PartialEq, Eq, Debug)]
 pub struct Hello {
     pub length: usize,
     pub drawn: usize,
-}
-
-#[derive(Clone, Copy)]
-pub enum Made {
-    Hello(Hello),
-    Refused(u64),
 }

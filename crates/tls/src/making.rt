@@ -1,21 +1,23 @@
 // The whole hello.
-ghost use Rattle.std.specs.Prelude.{◌≡◌, cond, ◌++◌, [], ◌∷◌, ◌+◌, ◌-◌, ◌*◌, ◌≤◌, ◌<◌, length};
+ghost use Rattle.std.specs.Prelude.{◌≡◌, cond, ◌++◌, [], ◌∷◌, ◌+◌, ◌-◌, ◌*◌, ◌≤◌, ◌<◌, length, map};
 ghost use Rattle.wire.specs.Answer.{result as answered};
+ghost use Rattle.wire.specs.Refusals.{answer_of};
 ghost use Rattle.wire.specs.Front.{front, Put};
 ghost use Rattle.wire.specs.Numbers.{digits};
 ghost use Rattle.wire.specs.Vectors.{vector, words};
-ghost use Rattle.profiles.specs.Code.{profile_of, Sound};
+ghost use Rattle.profiles.specs.Code.{type_number, profile_of, Sound};
 ghost use Rattle.profiles.specs.Sizes.{session_length};
 ghost use Rattle.tape.specs.Tape.{rand_bytes, shuffle};
 ghost use Rattle.tape.specs.Part.{Puts};
 ghost use Rattle.tls.specs.Hello.{fields, body, hello};
 ghost use Rattle.tls.specs.Make.{plain, ask_name, ask_room, MakesWith, Makes};
-ghost use Rattle.tls.specs.Writing.{number_of, counted_block, BlockRoom, BodyRoom, HelloRoom};
+ghost use Rattle.tls.specs.Writing.{counted_block, BlockRoom, BodyRoom, HelloRoom};
 
+use crate::Hello;
 use crate::building::build_extensions;
-use crate::{Hello, Made};
-use profiles::Profile;
+use profiles::{Browser, ExtType, Profile};
 use tape::Wrote;
+use wire::Refusal;
 
 // legacy_version (TLS 1.2) and random.
 fn put_random(out: &mut [u8], tape: &[u8])
@@ -57,21 +59,20 @@ fn put_fields(out: &mut [u8], profile: Profile, tape: &[u8]) -> usize
     ensures { Put (fields (profile_of profile) tape.now) result out.old out.new }
 {
     let s = session_length(profile.use_empty_session_id);
-    let suites = profile.cipher_suites;
-    let count = profile.suite_count;
     put_random(out, tape);
     put_session(&mut out[34..], tape, s);
     let a = 35 + s;
-    a + put_suites(&mut out[a..], &suites[0..count])
+    a + put_suites(&mut out[a..], &profile.cipher_suites[..profile.suite_count])
 }
 
-// Shuffles the order of the extensions, where the profile does; gives the place on the tape after that.
-fn put_in_order(order: &mut [usize], shuffled: bool, tape: &[u8], at: usize) -> usize
-    requires { (length order.old < 65536) × (at + cond shuffled (8 * (length order.old - 1)) 0 ≤ length tape.now) }
-    ensures { (result ≡ at + cond shuffled (8 * (length order.old - 1)) 0) × (order.new ≡ cond shuffled (shuffle 0 order.old tape.now at) order.old) }
+// Shuffles the types of the extensions, where the profile does; gives the place on the tape after that.
+fn put_in_order(types: &mut [ExtType], shuffled: bool, tape: &[u8], at: usize) -> usize
+    requires { (length types.old < 65536) × (at + cond shuffled (8 * (length types.old - 1)) 0 ≤ length tape.now) }
+    ensures is { result ≡ at + cond shuffled (8 * (length types.old - 1)) 0 }
+    ensures order { map type_number types.new ≡ cond shuffled (shuffle 0 (map type_number types.old) tape.now at) (map type_number types.old) }
 {
     if shuffled {
-        return tape::shuffle(order, tape, at);
+        return tape::shuffle(types, tape, at);
     }
     at
 }
@@ -81,24 +82,11 @@ fn put_block(out: &mut [u8], profile: Profile, name: &[u8], scid: &[u8], tape: &
     requires { BlockRoom profile name.now scid.now tape.now (length out.old) }
     ensures { Puts (counted_block (profile_of profile) name.now scid.now tape.now) result out.old out.new }
 {
-    let mut order = tape::PLACES;
-    let count = profile.extension_count;
+    let mut order = profile.extensions_order;
+    let types = &mut order[..profile.extension_count];
     let drawn = 32 + session_length(profile.use_empty_session_id);
-    let at = put_in_order(
-        &mut order[0..count],
-        profile.randomize_extensions_order,
-        tape,
-        drawn,
-    );
-    let w = build_extensions(
-        &mut out[2..],
-        &order[0..count],
-        profile,
-        name,
-        scid,
-        tape,
-        at,
-    );
+    let at = put_in_order(types, profile.randomize_extensions_order, tape, drawn);
+    let w = build_extensions(&mut out[2..], types, profile, name, scid, tape, at);
     wire::w16(out, w.length as u16);
     Wrote {
         length: 2 + w.length,
@@ -106,7 +94,8 @@ fn put_block(out: &mut [u8], profile: Profile, name: &[u8], scid: &[u8], tape: &
     }
 }
 
-// Fields and block.
+// Fields and block. Profile, name, connection id and tape go from call to call one by one and not as a struct: each contract speaks of each
+// of them, so the struct would only put a name before each.
 fn put_body(out: &mut [u8], profile: Profile, name: &[u8], scid: &[u8], tape: &[u8]) -> Wrote
     requires { BodyRoom profile name.now scid.now tape.now (length out.old) }
     ensures { Puts (body (profile_of profile) name.now scid.now tape.now) result out.old out.new }
@@ -138,61 +127,65 @@ fn is_plain(name: &[u8]) -> bool
     ensures { result ≡ plain name.now }
 {
     let mut plain = true;
-    let mut i: usize = 0;
-    while i < name.len() {
-        plain = plain & (33 <= name[i]) & (name[i] <= 126);
-        i = i + 1;
+    for &b in name {
+        plain = plain & (33 <= b) & (b <= 126);
     }
     plain
 }
 
-// The name's questions: 5, 6, or 0 where both are answered "yes". What a caller needs of a name that passes is `named-bytes`.
-pub fn name_refusal(name: &[u8]) -> u64
-    ensures { result ≡ number_of (ask_name name.now (answered (tt {0}))) }
+// The name's questions, 5 and 6. What a caller needs of a name that passes is `named-bytes`.
+pub fn ask_name(name: &[u8]) -> Result<(), Refusal>
+    ensures { answer_of result ≡ ask_name name.now (answered (tt {0})) }
 {
-    if name.len() < 1 {
-        return 5;
+    if !(1..=255).contains(&name.len()) {
+        return Err(Refusal::NameLength);
     }
-    if 255 < name.len() {
-        return 5;
+    if !is_plain(name) {
+        return Err(Refusal::NameByte);
     }
-    if is_plain(name) { 0 } else { 6 }
+    Ok(())
 }
 
-// The questions on connection id, tape and output, whose lengths are given: 7, 8, 9, or 0.
-fn room_refusal(profile: Profile, name: usize, scid: usize, tape: usize, room: usize) -> u64
+// The questions on connection id, tape and output, whose lengths are given: 7, 8 and 9.
+fn ask_room(
+    profile: Profile,
+    name: usize,
+    scid: usize,
+    tape: usize,
+    room: usize,
+) -> Result<(), Refusal>
     requires { Sound profile × (name < 256) }
-    ensures { result ≡ number_of (ask_room (profile_of profile) name scid tape room (answered (tt {0}))) }
+    ensures { answer_of result ≡ ask_room (profile_of profile) name scid tape room (answered (tt {0})) }
 {
     if 20 < scid {
-        return 7;
+        return Err(Refusal::ConnectionIdTooLong);
     }
     if tape < profile.tape_needed {
-        return 8;
+        return Err(Refusal::TapeTooShort);
     }
     if room < profile.longest + name + profile.scid_sources * scid {
-        return 9;
+        return Err(Refusal::NoRoomForHello);
     }
-    0
+    Ok(())
 }
 
 // The hello of a profile, or a refusal.
-fn make_with(profile: Profile, name: &[u8], scid: &[u8], tape: &[u8], out: &mut [u8]) -> Made
+fn make_with(
+    profile: Profile,
+    name: &[u8],
+    scid: &[u8],
+    tape: &[u8],
+    out: &mut [u8],
+) -> Result<Hello, Refusal>
     requires { Sound profile }
     ensures { MakesWith (profile_of profile) name.now scid.now tape.now out.old result out.new }
 {
-    let bad_name = name_refusal(name);
-    if bad_name != 0 {
-        return Made::Refused(bad_name);
-    }
-    let no_room = room_refusal(profile, name.len(), scid.len(), tape.len(), out.len());
-    if no_room != 0 {
-        return Made::Refused(no_room);
-    }
-    let w = put_hello(out, profile, name, scid, tape);
-    Made::Hello(Hello {
-        length: w.length,
-        drawn: w.next,
+    ask_name(name)?;
+    ask_room(profile, name.len(), scid.len(), tape.len(), out.len())?;
+    let made = put_hello(out, profile, name, scid, tape);
+    Ok(Hello {
+        length: made.length,
+        drawn: made.next,
     })
 }
 
@@ -205,17 +198,10 @@ pub fn generate_client_hello(
     scid: &[u8],
     tape: &[u8],
     out: &mut [u8],
-) -> Made
+) -> Result<Hello, Refusal>
     ensures { Makes browser name.now scid.now tape.now out.old result out.new }
 {
-    if 3 <= browser {
-        return Made::Refused(4);
-    }
-    make_with(
-        profiles::built_in::for_browser(browser as usize),
-        name,
-        scid,
-        tape,
-        out,
-    )
+    let browser = Browser::try_from(browser)?;
+    let profile = profiles::built_in::for_browser(browser);
+    make_with(profile, name, scid, tape, out)
 }

@@ -2,15 +2,15 @@
 // and gives the count of its bytes; one that draws also gives the place on the tape after its last draw.
 #![tactic(auto)]
 
-ghost use Rattle.std.specs.Prelude.{◌≡◌, ◌++◌, [], ◌∷◌, ◌+◌, ◌*◌, ◌≤◌, ◌<◌, length};
+ghost use Rattle.std.specs.Prelude.{◌≡◌, ◌++◌, [], ◌∷◌, ◌+◌, ◌*◌, ◌≤◌, ◌<◌, length, map, MatchOption};
 ghost use Rattle.wire.specs.Front.{front, Put};
 ghost use Rattle.wire.specs.Numbers.{digits};
 ghost use Rattle.wire.specs.Vectors.{vector, words, extension};
 ghost use Rattle.profiles.specs.Sizes.{key_share_size, key_draws};
-ghost use Rattle.profiles.specs.Code.{groups_in};
+ghost use Rattle.profiles.specs.Code.{group_number};
 ghost use Rattle.tape.specs.Tape.{rand_bytes, next_u64, payload_length};
 ghost use Rattle.tape.specs.Part.{Room, Puts};
-ghost use Rattle.tls_extensions.specs.Extensions.{ext_server_name, ext_alpn, ext_u16_list, ext_supported_versions, ext_psk_ke_modes, ext_delegated_credentials, key_of, key_share, key_shares, ext_key_share, ext_application_settings, ext_encrypted_client_hello, ext_record_size_limit, ext_reneg_info, ext_status_request, ext_extended_master_secret, ext_compress_cert};
+ghost use Rattle.tls_extensions.specs.Extensions.{ext_server_name, ext_alpn, ext_u16_list, ext_supported_versions, key_of, key_share, key_shares, ext_key_share, ext_encrypted_client_hello, ext_compress_cert, fixed_extension};
 
 use profiles::named_groups::{PQ_HYBRID_GROUP, SECP256R1};
 use profiles::{ExtType, Group, ext};
@@ -78,27 +78,25 @@ pub fn ext_u16_list(out: &mut [u8], t: ExtType, values: &[u16]) -> usize
     6 + wire::put_words(&mut out[6..], values)
 }
 
-// The first `count` groups, two bytes each.
-fn put_groups(out: &mut [u8], groups: [Group; 8], count: usize) -> usize
-    requires { (count ≤ 8) × (2 * count ≤ length out.old) }
-    ensures { Put (words (groups_in count groups)) result out.old out.new }
+// The groups, two bytes each. The same as `put_words`, but for the type: groups and numbers are kept apart up to here.
+fn put_groups(out: &mut [u8], groups: &[Group]) -> usize
+    requires { 2 * length groups.now ≤ length out.old }
+    ensures { Put (words (map group_number groups.now)) result out.old out.new }
 {
-    let mut at: usize = 0;
-    let mut i: usize = 0;
-    while i < count {
-        wire::w16(&mut out[at..], groups[i].0);
-        at = at + 2;
-        i = i + 1;
+    let mut at = 0;
+    for group in groups {
+        wire::w16(&mut out[at..], group.0);
+        at += 2;
     }
     at
 }
 
-pub fn ext_supported_groups(out: &mut [u8], groups: [Group; 8], count: usize) -> usize
-    requires { (count ≤ 8) × (6 + 2 * count ≤ length out.old) }
-    ensures { Put (ext_u16_list 10 (groups_in count groups)) result out.old out.new }
+pub fn ext_supported_groups(out: &mut [u8], groups: &[Group]) -> usize
+    requires { (6 + 2 * length groups.now ≤ length out.old) × (2 * length groups.now < 65530) }
+    ensures { Put (ext_u16_list 10 (map group_number groups.now)) result out.old out.new }
 {
-    put_list_head(out, ext::SUPPORTED_GROUPS, 2 * count);
-    6 + put_groups(&mut out[6..], groups, count)
+    put_list_head(out, ext::SUPPORTED_GROUPS, 2 * groups.len());
+    6 + put_groups(&mut out[6..], groups)
 }
 
 pub fn ext_supported_versions(out: &mut [u8], versions: &[u16]) -> usize
@@ -111,34 +109,14 @@ pub fn ext_supported_versions(out: &mut [u8], versions: &[u16]) -> usize
     5 + wire::put_words(&mut out[5..], versions)
 }
 
-pub fn ext_psk_ke_modes(out: &mut [u8]) -> usize
-    requires { 6 ≤ length out.old }
-    ensures { Put ext_psk_ke_modes result out.old out.new }
-{
-    put_extension(out, ext::PSK_KEY_EXCHANGE_MODES, b"\x01\x01")
-}
-
-pub fn ext_delegated_credentials(out: &mut [u8]) -> usize
-    requires { 14 ≤ length out.old }
-    ensures { Put ext_delegated_credentials result out.old out.new }
-{
-    put_extension(
-        out,
-        ext::DELEGATED_CREDENTIALS,
-        b"\x00\x08\x04\x03\x05\x03\x06\x03\x02\x03",
-    )
-}
-
 fn key_share_size(group: Group) -> usize
     ensures { (result ≡ key_share_size group.0) × (result < 65536) }
 {
-    if group.is(SECP256R1) {
-        return 65;
+    match group {
+        SECP256R1 => 65,
+        PQ_HYBRID_GROUP => 1216,
+        _ => 32,
     }
-    if group.is(PQ_HYBRID_GROUP) {
-        return 1216;
-    }
-    32
 }
 
 // The key of a group: drawn, for secp256r1 after the 04 of an uncompressed point. Gives the count drawn.
@@ -147,7 +125,7 @@ fn put_key(out: &mut [u8], group: Group, tape: &[u8], at: usize) -> usize
     ensures { (result ≡ key_draws group.0) × (out.new ≡ front (key_of group.0 tape.now at) out.old) }
 {
     let size = key_share_size(group);
-    if group.is(SECP256R1) {
+    if group == SECP256R1 {
         wire::w8(out, 0x04);
         return tape::rand_bytes(&mut out[1..], tape, at, size - 1);
     }
@@ -169,45 +147,30 @@ fn put_key_share(out: &mut [u8], group: Group, tape: &[u8], at: usize) -> Wrote
     }
 }
 
-fn put_key_shares(out: &mut [u8], groups: [Group; 4], count: usize, tape: &[u8], at: usize) -> Wrote
-    requires { (count ≤ 4) × Room (key_shares (groups_in count groups) tape.now at) (length out.old) (length tape.now) }
-    ensures { Puts (key_shares (groups_in count groups) tape.now at) result out.old out.new }
+fn put_key_shares(out: &mut [u8], groups: &[Group], tape: &[u8], at: usize) -> Wrote
+    requires { Room (key_shares (map group_number groups.now) tape.now at) (length out.old) (length tape.now) }
+    ensures { Puts (key_shares (map group_number groups.now) tape.now at) result out.old out.new }
 {
-    let mut n: usize = 0;
-    let mut t = at;
-    let mut i: usize = 0;
-    while i < count {
-        let w = put_key_share(&mut out[n..], groups[i], tape, t);
-        n = n + w.length;
-        t = w.next;
-        i = i + 1;
+    let mut n = 0;
+    let mut next = at;
+    for &group in groups {
+        let w = put_key_share(&mut out[n..], group, tape, next);
+        n += w.length;
+        next = w.next;
     }
-    Wrote { length: n, next: t }
+    Wrote { length: n, next }
 }
 
-pub fn ext_key_share(
-    out: &mut [u8],
-    groups: [Group; 4],
-    count: usize,
-    tape: &[u8],
-    at: usize,
-) -> Wrote
-    requires { (count ≤ 4) × Room (ext_key_share (groups_in count groups) tape.now at) (length out.old) (length tape.now) }
-    ensures { Puts (ext_key_share (groups_in count groups) tape.now at) result out.old out.new }
+pub fn ext_key_share(out: &mut [u8], groups: &[Group], tape: &[u8], at: usize) -> Wrote
+    requires { Room (ext_key_share (map group_number groups.now) tape.now at) (length out.old) (length tape.now) }
+    ensures { Puts (ext_key_share (map group_number groups.now) tape.now at) result out.old out.new }
 {
-    let w = put_key_shares(&mut out[6..], groups, count, tape, at);
+    let w = put_key_shares(&mut out[6..], groups, tape, at);
     put_list_head(out, ext::KEY_SHARE, w.length);
     Wrote {
         length: 6 + w.length,
         next: w.next,
     }
-}
-
-pub fn ext_application_settings(out: &mut [u8]) -> usize
-    requires { 9 ≤ length out.old }
-    ensures { Put ext_application_settings result out.old out.new }
-{
-    put_extension(out, ext::APPLICATION_SETTINGS, b"\x00\x03\x02h3")
 }
 
 // Type, length of the body, outer, HKDF-SHA256 and AES-128-GCM, config id.
@@ -244,34 +207,6 @@ pub fn ext_encrypted_client_hello(out: &mut [u8], tape: &[u8], at: usize) -> Wro
     }
 }
 
-pub fn ext_record_size_limit(out: &mut [u8]) -> usize
-    requires { 6 ≤ length out.old }
-    ensures { Put ext_record_size_limit result out.old out.new }
-{
-    put_extension(out, ext::RECORD_SIZE_LIMIT, b"\x40\x01")
-}
-
-pub fn ext_reneg_info(out: &mut [u8]) -> usize
-    requires { 5 ≤ length out.old }
-    ensures { Put ext_reneg_info result out.old out.new }
-{
-    put_extension(out, ext::RENEGOTIATION_INFO, b"\x00")
-}
-
-pub fn ext_status_request(out: &mut [u8]) -> usize
-    requires { 9 ≤ length out.old }
-    ensures { Put ext_status_request result out.old out.new }
-{
-    put_extension(out, ext::STATUS_REQUEST, b"\x01\x00\x00\x00\x00")
-}
-
-pub fn ext_extended_master_secret(out: &mut [u8]) -> usize
-    requires { 4 ≤ length out.old }
-    ensures { Put ext_extended_master_secret result out.old out.new }
-{
-    put_extension(out, ext::EXTENDED_MASTER_SECRET, b"")
-}
-
 pub fn ext_compress_cert(out: &mut [u8], firefox: bool) -> usize
     requires { length (ext_compress_cert firefox) ≤ length out.old }
     ensures { Put (ext_compress_cert firefox) result out.old out.new }
@@ -284,4 +219,31 @@ pub fn ext_compress_cert(out: &mut [u8], firefox: bool) -> usize
         );
     }
     put_extension(out, ext::COMPRESS_CERTIFICATE, b"\x02\x00\x02")
+}
+
+// The body of an extension whose bytes are the same in every hello; none for another type.
+fn fixed_body(t: ExtType) -> Option<&'static [u8]>
+    ensures { MatchOption result (fixed_extension t.0 ≡ []) (λ body. (fixed_extension t.0 ≡ extension t.0 body.now) × (length body.now < 65536)) }
+{
+    match t {
+        ext::PSK_KEY_EXCHANGE_MODES => Some(b"\x01\x01"),
+        ext::RECORD_SIZE_LIMIT => Some(b"\x40\x01"),
+        ext::RENEGOTIATION_INFO => Some(b"\x00"),
+        ext::STATUS_REQUEST => Some(b"\x01\x00\x00\x00\x00"),
+        ext::EXTENDED_MASTER_SECRET => Some(b""),
+        ext::DELEGATED_CREDENTIALS => Some(b"\x00\x08\x04\x03\x05\x03\x06\x03\x02\x03"),
+        ext::APPLICATION_SETTINGS => Some(b"\x00\x03\x02h3"),
+        _ => None,
+    }
+}
+
+// An extension whose bytes are the same in every hello; nothing for another type.
+pub fn ext_fixed(out: &mut [u8], t: ExtType) -> usize
+    requires { length (fixed_extension t.0) ≤ length out.old }
+    ensures { Put (fixed_extension t.0) result out.old out.new }
+{
+    match fixed_body(t) {
+        Some(body) => put_extension(out, t, body),
+        None => 0,
+    }
 }

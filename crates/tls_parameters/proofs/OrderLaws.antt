@@ -1,121 +1,200 @@
--- The parameters in profile order: where the draws of each begin, and what stands at a place; then the loops over them. Assumes nothing.
+-- The parameters in profile order, each with the place of its draws; shuffled; and the loops over them. Assumes nothing.
 use Prim.Native.Nat.{ℕ, zero, suc, ◌+◌, ◌≤◌, ◌<◌}
 use mathlib.Core.Path.{◌≡◌, refl, ◌∙◌, ap}
-use mathlib.Core.List.{List, [], ◌∷◌, ◌++◌}
-use native.Mathlib.Decide.{ℕ_discrete}
-use native.Mathlib.Nat.{not-suc-le-zero, le_of_suc-le-suc}
+use mathlib.Core.List.{List, [], ◌∷◌, ◌++◌, map}
+use native.Mathlib.Nat.{not-suc-le-zero, le_of_suc-le-suc, zero-lt-suc}
 use native.Mathlib.Numerals.{add-one}
 use native.Mathlib.Omega.{arith}
 use lib.ListN.{length, take, drop, set, get_or, length-set, drop_of_length-le}
-use lib.Seq.{drop-cons, get_or-set_same, get_or-set_other, take-length}
-use Rattle.wire.specs.Front.{Put}
-use Rattle.wire.proofs.ListLaws.{get_or-any-default, length-firsts, firsts_at}
-use Rattle.wire.proofs.Writing.{Writing, lent_from, back_from, rest-is, next-room, writes, finished}
-use Rattle.profiles.specs.Profile.{Parameter, grease}
+use lib.Seq.{drop-cons, take-length}
+use Rattle.std.specs.List.{All}
+use Rattle.wire.specs.Front.{front, Put}
+use Rattle.wire.specs.Numbers.{digits}
+use Rattle.wire.specs.Vectors.{extension}
+use Rattle.wire.proofs.Writing.{Writing, lent_from, back_from, rest-is, next-room, writes, finished, headed}
+use Rattle.profiles.specs.Profile.{Parameter}
 use Rattle.profiles.specs.Sizes.{parameter_draws}
-use Rattle.profiles.specs.Code.{parameter_of, parameters_in}
-use Rattle.profiles.specs.declared.Parameter as code
+use Rattle.profiles.specs.Code.{parameter_of}
+use Rattle.profiles.specs.declared.TpEntry.{TpEntry}
 use Rattle.profiles.specs.declared.TpEntry.TheVariants as entry
-use Rattle.tls_parameters.specs.Parameters.{none, resolve, resolved, after_parameters, parameters}
-use Rattle.tls_parameters.specs.Writing.{resolved_bytes, PlacesOf, entry_at, picked}
+use Rattle.tape.specs.Tape.{shuffle, after_shuffle}
+use Rattle.tape.specs.Part.{Room}
+use Rattle.tape.proofs.ShuffleLaws.{length-shuffle, shuffle-default, shuffle-keeps, shuffle-map}
+use Rattle.tls_extensions.proofs.LengthLaws.{length-extension}
+use Rattle.tls_extensions.proofs.HeadLaws.{length-head, extension-is}
+use Rattle.tls_parameters.specs.Parameters.{Resolved, none, resolve, resolved, after_parameters, sent_parameters, parameters, ext_quic_tp}
+use Rattle.tls_parameters.specs.Writing.{resolved_bytes, AllVarints, placed_at, resolve_placed, sent_of, Placeable, ParametersRoom}
+use Rattle.tls_parameters.specs.declared.Placed.{Placed}
 use Rattle.tls_parameters.proofs.LengthLaws.{after-parameters}
 
--- ---- draws
+-- ---- parameters and the places of their draws
 
-after-suc : (ps : List Parameter) (i at : ℕ) → i < length ps
-    → after_parameters (take (suc i) ps) at ≡ after_parameters (take i ps) at + parameter_draws (get_or ps i grease)
+-- the parameters of a list of the code's
+abbrev pub listed : List TpEntry → List Parameter
+listed ps = map parameter_of ps
+
+pub length-placed : (ps : List TpEntry) (at : ℕ) → length (placed_at ps at) ≡ length ps
+unfolding placed_at
+length-placed [] at = refl
+length-placed (p ∷ ps) at = ap suc (length-placed ps (at + parameter_draws (parameter_of p)))
+
+placed-resolved : (ps : List TpEntry) (scid tape : List ℕ) (at : ℕ) → sent_of (placed_at ps at) scid tape ≡ resolved (listed ps) scid tape at
+unfolding placed_at resolved
+placed-resolved [] scid tape at = refl
+placed-resolved (p ∷ ps) scid tape at =
+    ap (λ (l : List Resolved). resolve (parameter_of p) scid tape at ∷ l) (placed-resolved ps scid tape (at + parameter_draws (parameter_of p)))
+
+placed-placeable : (ps : List TpEntry) (tape : List ℕ) (at : ℕ) → AllVarints (listed ps) → after_parameters (listed ps) at ≤ length tape
+    → All (Placeable tape) (placed_at ps at)
+unfolding placed_at after_parameters
+placed-placeable [] tape at ok there k d h = absurd (not-suc-le-zero h)
+placed-placeable (p ∷ ps) tape at ok there zero d h =
+    (ok 0 (zero-lt-suc (length (listed ps))), omega (arith, after-parameters (listed ps) (at + parameter_draws (parameter_of p)), there))
+placed-placeable (p ∷ ps) tape at ok there (suc k) d h =
+    placed-placeable ps tape (at + parameter_draws (parameter_of p)) (λ j l. ok (suc j) (omega arith)) there k d (le_of_suc-le-suc h)
+
+-- ---- `place_draws`: the first i parameters are placed, and the next place is the one after their draws
+
+abbrev pub placed_with : TpEntry → ℕ → Placed
+placed_with p at = record { parameter = p; at = at }
+
+placed-next : (ps : List TpEntry) (i at : ℕ) (d : TpEntry) → i < length ps
+    → placed_at (take (suc i) ps) at ≡ placed_at (take i ps) at ++ (placed_with (get_or ps i d) (after_parameters (listed (take i ps)) at) ∷ [])
+unfolding placed_at after_parameters
+placed-next [] i at d h = absurd (not-suc-le-zero h)
+placed-next (p ∷ ps) zero at d h = refl
+placed-next (p ∷ ps) (suc i) at d h =
+    ap (λ (l : List Placed). placed_with p at ∷ l) (placed-next ps i (at + parameter_draws (parameter_of p)) d (le_of_suc-le-suc h))
+
+after-next : (ps : List TpEntry) (i at : ℕ) (d : TpEntry) → i < length ps
+    → after_parameters (listed (take (suc i) ps)) at ≡ after_parameters (listed (take i ps)) at + parameter_draws (parameter_of (get_or ps i d))
 unfolding after_parameters
-after-suc [] i at h = absurd (not-suc-le-zero h)
-after-suc (p ∷ ps) zero at h = refl
-after-suc (p ∷ ps) (suc i) at h = after-suc ps i (at + parameter_draws p) (le_of_suc-le-suc h)
+after-next [] i at d h = absurd (not-suc-le-zero h)
+after-next (p ∷ ps) zero at d h = refl
+after-next (p ∷ ps) (suc i) at d h = after-next ps i (at + parameter_draws (parameter_of p)) d (le_of_suc-le-suc h)
 
--- a parameter's draws end before those of all
-pub after-within : (ps : List Parameter) (i at : ℕ) → i < length ps
-    → after_parameters (take i ps) at + parameter_draws (get_or ps i grease) ≤ after_parameters ps at
+-- the draws of the first parameters end before those of all
+after-within : (ps : List TpEntry) (i at : ℕ) → after_parameters (listed (take i ps)) at ≤ after_parameters (listed ps) at
 unfolding after_parameters
-after-within [] i at h = absurd (not-suc-le-zero h)
-after-within (p ∷ ps) zero at h = omega (arith, after-parameters ps (at + parameter_draws p))
-after-within (p ∷ ps) (suc i) at h = after-within ps i (at + parameter_draws p) (le_of_suc-le-suc h)
+after-within [] zero at = omega arith
+after-within [] (suc i) at = omega arith
+after-within (p ∷ ps) zero at = omega (arith, after-parameters (listed ps) (at + parameter_draws (parameter_of p)))
+after-within (p ∷ ps) (suc i) at = after-within ps i (at + parameter_draws (parameter_of p))
 
--- each has the draws that begin after those of the parameters before it
-pub resolved-at : (ps : List Parameter) (scid tape : List ℕ) (at j : ℕ) → j < length ps
-    → get_or (resolved ps scid tape at) j none ≡ resolve (get_or ps j grease) scid tape (after_parameters (take j ps) at)
-unfolding resolved after_parameters
-resolved-at [] scid tape at j h = absurd (not-suc-le-zero h)
-resolved-at (p ∷ ps) scid tape at zero h = refl
-resolved-at (p ∷ ps) scid tape at (suc j) h = resolved-at ps scid tape (at + parameter_draws p) j (le_of_suc-le-suc h)
+take-set : {A : Type 0} (l : List A) (i : ℕ) (v : A) → i < length l → take (suc i) (set l i v) ≡ take i l ++ (v ∷ [])
+take-set [] i v h = absurd (not-suc-le-zero h)
+take-set (x ∷ l) zero v h = refl
+take-set {A} (x ∷ l) (suc i) v h = ap (λ (m : List A). x ∷ m) (take-set l i v (le_of_suc-le-suc h))
 
--- ---- entries
+pub record Drawn (ps : List TpEntry) (at : ℕ) (placed : List Placed) (next i : ℕ) : Type 0 where
+  pub long : length placed ≡ 16
+  pub is : take i placed ≡ placed_at (take i ps) at
+  pub after : next ≡ after_parameters (listed (take i ps)) at
 
--- whatever stands for a missing one
-pub entry-is : (entries : List code.Parameter) (k : ℕ) (d : code.Parameter) → k < length entries → parameter_of (get_or entries k d) ≡ entry_at entries k
-entry-is entries k d h = ap parameter_of (get_or-any-default entries k d (record { 0 = entry.Grease }) h)
+pub drawn-none : (ps : List TpEntry) (at : ℕ) (placed : List Placed) → length placed ≡ 16 → Drawn ps at placed at 0
+unfolding placed_at after_parameters
+drawn-none ps at placed long = record { long = long; is = refl; after = refl }
 
-module _ (entries : List code.Parameter) (count : ℕ) (within : count ≤ length entries) where
-  pub length-listed : length (parameters_in count entries) ≡ count
-  length-listed = length-firsts parameter_of entries count within
-
-  pub listed_at : (i : ℕ) → i < count → get_or (parameters_in count entries) i grease ≡ entry_at entries i
-  listed_at i h = firsts_at parameter_of entries count (record { 0 = entry.Grease }) (record { 0 = entry.Grease }) i h within
-
--- ---- `draw_places`: the places of the first i parameters are noted, and t is the place after their draws
-
-pub record Noted (ps : List Parameter) (at : ℕ) (places : List ℕ) (t i : ℕ) : Type 0 where
-  pub within : i ≤ length ps
-  pub long : length places ≡ 16
-  pub next : t ≡ after_parameters (take i ps) at
-  pub begin : (j : ℕ) → j < i → get_or places j 0 ≡ after_parameters (take j ps) at
-
-pub noted-none : (ps : List Parameter) (at : ℕ) (places : List ℕ) → length places ≡ 16 → Noted ps at places at 0
-unfolding after_parameters
-noted-none ps at places h = record { within = omega arith; long = h; next = refl; begin = λ j k. absurd (not-suc-le-zero k) }
-
-module _ {ps : List Parameter} {at : ℕ} {places : List ℕ} {t i : ℕ} (n : Noted ps at places t i) where
-  pub noted_more : i < length ps → i < 16 → {d : ℕ} → d ≡ parameter_draws (get_or ps i grease) → Noted ps at (set places i t) (t + d) (i + 1)
-  noted_more h k e =
+module _ {ps : List TpEntry} {at : ℕ} {placed : List Placed} {next i : ℕ} (n : Drawn ps at placed next i) (d : TpEntry) (h : i < length ps) where
+  pub drawn-more : i < 16 → {k : ℕ} → k ≡ parameter_draws (parameter_of (get_or ps i d))
+      → Drawn ps at (set placed i (placed_with (get_or ps i d) next)) (next + k) (i + 1)
+  drawn-more room e =
       record {
-        within = omega arith;
-        long = length-set places i t ∙ n.long;
-        next = rw (e, add-one i, after-suc ps i at h, n.next);
-        begin = λ j l. go j l (ℕ_discrete j i);
+        long = length-set placed i (placed_with (get_or ps i d) next) ∙ n.long;
+        is = rw (add-one i, take-set placed i (placed_with (get_or ps i d) next) (omega (arith, room, n.long)), n.is, n.after, placed-next ps i at d h);
+        after = rw (add-one i, after-next ps i at d h, e, n.after);
       }
-    where
-      go : (j : ℕ) → j < i + 1 → Dec (j ≡ i) → get_or (set places i t) j 0 ≡ after_parameters (take j ps) at
-      go j l (yes p) = rw p (get_or-set_same places i t 0 (omega (arith, n.long)) ∙ n.next)
-      go j l (no q) = get_or-set_other places i j t 0 q ∙ n.begin j (omega (arith, q))
 
   -- so the next sum does not overflow
-  pub next-within : i < length ps → {d : ℕ} → d ≡ parameter_draws (get_or ps i grease) → t + d ≤ after_parameters ps at
-  next-within h e = rw (e, n.next) (after-within ps i at h)
+  pub next-within : {k : ℕ} → k ≡ parameter_draws (parameter_of (get_or ps i d)) → next + k ≤ after_parameters (listed ps) at
+  next-within e = omega (arith, e, n.after, after-next ps i at d h, after-within ps (suc i) at)
 
-  pub noted-all : length ps ≤ i → (t ≡ after_parameters ps at) × PlacesOf ps at places
-  noted-all h =
-      let e : i ≡ length ps = omega (arith, n.within) in
-      (n.next ∙ rw (e, take-length ps), λ j k. n.begin j (omega arith))
+pub drawn-all : {ps : List TpEntry} {at : ℕ} {placed : List Placed} {next i : ℕ} → i ≡ length ps → Drawn ps at placed next i
+    → (next ≡ after_parameters (listed ps) at) × (take (length ps) placed ≡ placed_at ps at)
+drawn-all {ps} e n = (n.after ∙ rw (e, take-length ps), rw (take-length ps) at (rw e at n.is))
 
--- ---- `put_parameters`: those from place i of the order on are the one at i, and the others
+-- ---- shuffled
 
-module _ (entries : List code.Parameter) (places order scid tape : List ℕ) (i : ℕ) where
+module _ (ps : List TpEntry) (scid tape : List ℕ) (at : ℕ) {shuffled : List Placed}
+    (e : (d : Placed) → shuffled ≡ shuffle d (placed_at ps at) tape (after_parameters (listed ps) at)) where
+  abbrev some : Placed
+  some = placed_with entry.Grease 0
+
+  pub length-shuffled : length shuffled ≡ length ps
+  length-shuffled = ap length (e some) ∙ length-shuffle some (placed_at ps at) tape (after_parameters (listed ps) at) ∙ length-placed ps at
+
+  -- what is written is what the definition sends
+  pub shuffled-sent : sent_of shuffled scid tape ≡ sent_parameters (listed ps) scid tape at
+  unfolding sent_parameters
+  shuffled-sent =
+      let f = resolve_placed scid tape in
+      let t = after_parameters (listed ps) at in
+      ap (λ (l : List Placed). sent_of l scid tape) (e some)
+      ∙ shuffle-map f some (placed_at ps at) tape t
+      ∙ shuffle-default (f some) none (map f (placed_at ps at)) tape t
+      ∙ ap (λ (l : List Resolved). shuffle none l tape t) (placed-resolved ps scid tape at)
+
+  pub shuffled-room : {room : ℕ} → AllVarints (listed ps) → after_parameters (listed ps) at ≤ length tape → length scid < 65536
+      → length (parameters (sent_parameters (listed ps) scid tape at)) ≤ room → ParametersRoom shuffled scid tape room
+  shuffled-room ok there short fits =
+      record {
+        each = rw (e some) (shuffle-keeps (Placeable tape) some (placed_at ps at) tape (after_parameters (listed ps) at) (placed-placeable ps tape at ok there));
+        fits = rw shuffled-sent fits;
+        short = short;
+      }
+
+-- ---- `put_parameters`: those from place i on are the one at i, and the others
+
+module _ (placed : List Placed) (scid tape : List ℕ) (i : ℕ) (d : Placed) where
   -- the bytes of the one
-  abbrev pub picked_bytes : List ℕ
-  picked_bytes = resolved_bytes (entry_at entries (get_or order i 0)) scid tape (get_or places (get_or order i 0) 0)
+  abbrev pub placed_bytes : List ℕ
+  placed_bytes = resolved_bytes (parameter_of (get_or placed i d).parameter) scid tape (get_or placed i d).at
 
-  picked_next : i < length order
-      → parameters (picked entries places (drop i order) scid tape) ≡ picked_bytes ++ parameters (picked entries places (drop (i + 1) order) scid tape)
-  unfolding parameters picked
-  picked_next h = rw (drop-cons order i 0 h, add-one i)
+  following : i < length placed
+      → parameters (sent_of (drop i placed) scid tape) ≡ placed_bytes ++ parameters (sent_of (drop (i + 1) placed) scid tape)
+  unfolding parameters
+  following h = rw (drop-cons placed i d h, add-one i)
 
-  picked_none : length order ≤ i → parameters (picked entries places (drop i order) scid tape) ≡ []
-  unfolding parameters picked
-  picked_none h = rw (drop_of_length-le order h)
+  module _ {whole old out : List ℕ} {n : ℕ} (w : Writing whole (parameters (sent_of (drop i placed) scid tape)) old out n) (h : i < length placed) where
+    pub placed-room : length placed_bytes ≤ length (lent_from n out)
+    placed-room = next-room placed_bytes (parameters (sent_of (drop (i + 1) placed) scid tape)) (rest-is w (following h)) refl
 
-  module _ {whole old out : List ℕ} {n : ℕ} (w : Writing whole (parameters (picked entries places (drop i order) scid tape)) old out n) where
-    pub picked-room : i < length order → length picked_bytes ≤ length (lent_from n out)
-    picked-room h = next-room picked_bytes (parameters (picked entries places (drop (i + 1) order) scid tape)) (rest-is w (picked_next h)) refl
+    pub placed-written : {part : List ℕ} {m : ℕ} → Put placed_bytes m (lent_from n out) part
+        → Writing whole (parameters (sent_of (drop (i + 1) placed) scid tape)) old (back_from n out part) (n + m)
+    placed-written = writes placed_bytes (parameters (sent_of (drop (i + 1) placed) scid tape)) (rest-is w (following h))
 
-    pub picked-written : i < length order → {part : List ℕ} {m : ℕ} → Put picked_bytes m (lent_from n out) part
-        → Writing whole (parameters (picked entries places (drop (i + 1) order) scid tape)) old (back_from n out part) (n + m)
-    picked-written h = writes picked_bytes (parameters (picked entries places (drop (i + 1) order) scid tape)) (rest-is w (picked_next h))
+pub placed-finished : {whole : List ℕ} (placed : List Placed) (scid tape : List ℕ) (i : ℕ) {old out : List ℕ} {n : ℕ} → length placed ≤ i
+    → Writing whole (parameters (sent_of (drop i placed) scid tape)) old out n → Put whole n old out
+unfolding parameters
+placed-finished placed scid tape i h w = finished (rest-is w (rw (drop_of_length-le placed h)))
 
-    pub picked-finished : length order ≤ i → Put whole n old out
-    picked-finished h = finished (rest-is w (picked_none h))
+-- ---- the extension
+
+module _ (ps : List Parameter) (scid tape : List ℕ) (at : ℕ) {room : ℕ} (r : Room (ext_quic_tp ps scid tape at) room (length tape)) where
+  pub draws-there : after_parameters ps at ≤ length tape
+  unfolding ext_quic_tp
+  draws-there = omega (arith, r.there)
+
+  pub shuffle-there : {n : ℕ} → length ps ≡ n → after_shuffle n (after_parameters ps at) ≤ length tape
+  unfolding ext_quic_tp
+  shuffle-there e = rw e at r.there
+
+  pub body-fits : 4 + length (parameters (sent_parameters ps scid tape at)) ≤ room
+  unfolding ext_quic_tp
+  body-fits = rw (length-extension 0x0039 (parameters (sent_parameters ps scid tape at))) at r.fits
+
+  pub body-small : 4 + length (parameters (sent_parameters ps scid tape at)) < 65536
+  unfolding ext_quic_tp
+  body-small = rw (length-extension 0x0039 (parameters (sent_parameters ps scid tape at))) at r.small
+
+-- the body was written to the part after the head's place, and then the head over the front
+pub extension-written : (t : ℕ) (body old part : List ℕ) {n : ℕ} {new : List ℕ} → 4 + length body ≤ length old → Put body n (lent_from 4 old) part
+    → new ≡ front (digits 256 2 t ++ digits 256 2 n) (back_from 4 old part) → Put (extension t body) (4 + n) old new
+extension-written t body old part {n} h p e =
+    record {
+      count = omega (arith, p.count, length-extension t body);
+      output =
+          e
+          ∙ headed (digits 256 2 t ++ digits 256 2 n) body old part (length-head t n) h p.output
+          ∙ rw p.count (ap (λ (l : List ℕ). front l old) (extension-is t body));
+    }

@@ -1,5 +1,5 @@
 -- One parameter: its bytes while they are written, and the values that are parts of a table or of the tape. Assumes nothing.
-use Prim.Native.Nat.{ℕ, zero, suc, ◌+◌, ◌-◌, ◌*◌, ◌%◌, ◌≤◌, ◌<◌}
+use Prim.Native.Nat.{ℕ, zero, suc, min, ◌+◌, ◌-◌, ◌*◌, ◌%◌, ◌≤◌, ◌<◌}
 use mathlib.Core.Path.{◌≡◌, refl, sym}
 use mathlib.Core.List.{List, [], ◌∷◌, ◌++◌, append-nil}
 use native.Mathlib.Omega.{arith}
@@ -44,11 +44,18 @@ one_byte n h =
 -- ---- values
 
 -- the table of bytes has two
-pub two_bytes : (n : ℕ) → 2 ≤ n → take 2 tp_bytes ≡ take n tp_bytes
+two_bytes : (n : ℕ) → 2 ≤ n → take 2 tp_bytes ≡ take n tp_bytes
 two_bytes zero h = absurd (omega arith)
 two_bytes (suc zero) h = absurd (omega arith)
 two_bytes (suc (suc zero)) h = refl
 two_bytes (suc (suc (suc n))) h = refl
+
+pub raw-min : (n : ℕ) → take (min n 2) tp_bytes ≡ take n tp_bytes
+raw-min zero = refl
+raw-min (suc zero) = refl
+raw-min (suc (suc n)) =
+    let e : min (suc (suc n)) 2 ≡ 2 = omega arith in
+    rw e (two_bytes (suc (suc n)) (omega arith))
 
 pub raw-short : (n : ℕ) → length (take n tp_bytes) < 65536
 raw-short zero = lit< tt

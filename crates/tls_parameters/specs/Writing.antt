@@ -1,11 +1,11 @@
 -- What the writers of parameters ask for and promise. Parameters are written in shuffled order, each with the draws at its own place.
-use Rattle.std.specs.Prelude.{ℕ, ◌+◌, ◌≤◌, ◌<◌, ◌^◌, ◌≡◌, List, map, length, take, get_or}
+use Rattle.std.specs.Prelude.{ℕ, ◌+◌, ◌≤◌, ◌<◌, ◌^◌, List, [], ◌∷◌, map, length, get_or, All}
 use Rattle.profiles.specs.Profile.{Parameter, varint, bytes, version_info, scid_source, grease}
 use Rattle.profiles.specs.Sizes.{parameter_draws}
 use Rattle.profiles.specs.Code.{parameter_of}
-use Rattle.profiles.specs.declared.Parameter as code
-use Rattle.profiles.specs.declared.TpEntry.TheVariants as entry
-use Rattle.tls_parameters.specs.Parameters.{Resolved, resolve, after_parameters, parameter, parameters}
+use Rattle.profiles.specs.declared.TpEntry.{TpEntry}
+use Rattle.tls_parameters.specs.Parameters.{Resolved, resolve, parameter, parameters}
+use Rattle.tls_parameters.specs.declared.Placed.{Placed}
 
 -- a parameter's bytes, with its draws at a place
 abbrev pub resolved_bytes : Parameter → List ℕ → List ℕ → ℕ → List ℕ
@@ -22,16 +22,17 @@ HasVarints grease = Unit {0}
 abbrev pub AllVarints : List Parameter → Type 0
 AllVarints ps = (j : ℕ) → j < length ps → HasVarints (get_or ps j grease)
 
--- each parameter's draws begin after those of the parameters before it
-abbrev pub PlacesOf : List Parameter → ℕ → List ℕ → Type 0
-PlacesOf ps at places = (j : ℕ) → j < length ps → get_or places j 0 ≡ after_parameters (take j ps) at
+-- each parameter with the place of its draws, which begin after those of the parameters before it
+unfoldable pub placed_at : List TpEntry → ℕ → List Placed
+placed_at [] at = []
+placed_at (p ∷ ps) at = record { parameter = p; at = at } ∷ placed_at ps (at + parameter_draws (parameter_of p))
 
--- the parameters in the order given, each with its draws at its own place
-abbrev pub entry_at : List code.Parameter → ℕ → Parameter
-entry_at entries k = parameter_of (get_or entries k (record { 0 = entry.Grease }))
+-- the parameters with their values, in the order given
+abbrev pub resolve_placed : List ℕ → List ℕ → Placed → Resolved
+resolve_placed scid tape q = resolve (parameter_of q.parameter) scid tape q.at
 
-unfoldable pub picked : List code.Parameter → List ℕ → List ℕ → List ℕ → List ℕ → List Resolved
-picked entries places order scid tape = map (λ k. resolve (entry_at entries k) scid tape (get_or places k 0)) order
+abbrev pub sent_of : List Placed → List ℕ → List ℕ → List Resolved
+sent_of placed scid tape = map (resolve_placed scid tape) placed
 
 pub record ParameterRoom (p : Parameter) (scid tape : List ℕ) (at room : ℕ) : Type 0 where
   pub varints : HasVarints p
@@ -39,12 +40,11 @@ pub record ParameterRoom (p : Parameter) (scid tape : List ℕ) (at room : ℕ) 
   pub there : at + parameter_draws p ≤ length tape
   pub short : length scid < 65536
 
-pub record Pickable (entries : List code.Parameter) (places tape : List ℕ) (k : ℕ) : Type 0 where
-  pub within : k < 16
-  pub varints : HasVarints (entry_at entries k)
-  pub there : get_or places k 0 + parameter_draws (entry_at entries k) ≤ length tape
+-- parameters whose ids and numbers have varints, and whose draws are on the tape
+abbrev pub Placeable : List ℕ → Placed → Type 0
+Placeable tape q = HasVarints (parameter_of q.parameter) × (q.at + parameter_draws (parameter_of q.parameter) ≤ length tape)
 
-pub record ParametersRoom (entries : List code.Parameter) (places order scid tape : List ℕ) (room : ℕ) : Type 0 where
-  pub each : (j : ℕ) → j < length order → Pickable entries places tape (get_or order j 0)
-  pub fits : length (parameters (picked entries places order scid tape)) ≤ room
+pub record ParametersRoom (placed : List Placed) (scid tape : List ℕ) (room : ℕ) : Type 0 where
+  pub each : All (Placeable tape) placed
+  pub fits : length (parameters (sent_of placed scid tape)) ≤ room
   pub short : length scid < 65536

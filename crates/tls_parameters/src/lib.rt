@@ -1,18 +1,18 @@
-// `ext_quic_tp` of tls.rs. The parameters draw in profile order, so the places of their draws are noted first; then their order is
-// shuffled; then each is written in the new order, with the draws at its own place.
+// `ext_quic_tp` of tls.rs. The parameters draw in profile order, so each is noted first with the place of its draws; then they are
+// shuffled; then each is written, with the draws at its own place.
 #![tactic(auto)]
 
-ghost use Rattle.std.specs.Prelude.{◌≡◌, ◌+◌, ◌^◌, ◌≤◌, ◌<◌, length, take};
+ghost use Rattle.std.specs.Prelude.{◌≡◌, ◌+◌, ◌^◌, ◌≤◌, ◌<◌, length, take, map};
 ghost use Rattle.wire.specs.Front.{Put};
 ghost use Rattle.varint.specs.Varint.{shortest};
 ghost use Rattle.profiles.specs.Sizes.{parameter_draws};
-ghost use Rattle.profiles.specs.Code.{tp_bytes, parameter_of, parameters_in};
+ghost use Rattle.profiles.specs.Code.{tp_bytes, parameter_of};
 ghost use Rattle.tape.specs.Tape.{rand_bytes, next_u64, grease_id, version_information};
 ghost use Rattle.tape.specs.Part.{Room, Puts};
 ghost use Rattle.tls_parameters.specs.Parameters.{parameter, parameters, after_parameters, ext_quic_tp};
-ghost use Rattle.tls_parameters.specs.Writing.{resolved_bytes, AllVarints, PlacesOf, picked, ParameterRoom, ParametersRoom};
+ghost use Rattle.tls_parameters.specs.Writing.{resolved_bytes, AllVarints, placed_at, sent_of, ParameterRoom, ParametersRoom};
 
-use profiles::{Parameter, TpEntry, ext};
+use profiles::{TpEntry, ext};
 use tape::Wrote;
 use varint::{put_varint, varint_length};
 
@@ -37,21 +37,13 @@ fn put_number(out: &mut [u8], id: u64, value: u64) -> usize
     b + put_varint(&mut out[b..], value)
 }
 
-// The table of bytes has two.
-fn at_most_two(n: usize) -> usize
-    ensures { (result ≤ 2) × (take result tp_bytes ≡ take n tp_bytes) }
-{
-    if n < 2 { n } else { 2 }
-}
-
 // The same for the first n bytes of the table of bytes.
 fn put_raw(out: &mut [u8], id: u64, n: usize) -> usize
     requires { (id < 2 ^ 62) × (length (parameter id (take n tp_bytes)) ≤ length out.old) }
     ensures { Put (parameter id (take n tp_bytes)) result out.old out.new }
 {
     let bytes = profiles::built_in::tp_bytes();
-    let end = at_most_two(n);
-    put_value(out, id, &bytes[0..end])
+    put_value(out, id, &bytes[..n.min(bytes.len())])
 }
 
 // QUIC version 1 (RFC 9000), the only one that is asked for.
@@ -71,18 +63,15 @@ fn put_grease(out: &mut [u8], tape: &[u8], at: usize) -> usize
     ensures { Put (parameter (grease_id (next_u64 tape.now at)) (rand_bytes 6 tape.now (at + 8))) result out.old out.new }
 {
     let id = tape::grease_tp_id(tape::next_u64(tape, at));
-    let a = at + 8;
-    let e = at + 14;
-    put_value(out, id, &tape[a..e])
+    put_value(out, id, &tape[at + 8..at + 14])
 }
 
 // One parameter, whose draws begin at a place.
-fn put_parameter(out: &mut [u8], p: Parameter, scid: &[u8], tape: &[u8], at: usize) -> usize
+fn put_parameter(out: &mut [u8], p: TpEntry, scid: &[u8], tape: &[u8], at: usize) -> usize
     requires { ParameterRoom (parameter_of p) scid.now tape.now at (length out.old) }
     ensures { Put (resolved_bytes (parameter_of p) scid.now tape.now at) result out.old out.new }
 {
-    let entry = p.0;
-    match entry {
+    match p {
         TpEntry::Varint(id, value) => put_number(out, id, value),
         TpEntry::Bytes(id, n) => put_raw(out, id, n),
         TpEntry::VersionInfo(id) => put_version_info(out, id, tape, at),
@@ -92,80 +81,79 @@ fn put_parameter(out: &mut [u8], p: Parameter, scid: &[u8], tape: &[u8], at: usi
 }
 
 // How many bytes a parameter draws.
-fn parameter_draws(p: Parameter) -> usize
+fn parameter_draws(p: TpEntry) -> usize
     ensures { (result ≡ parameter_draws (parameter_of p)) × (result ≤ 14) }
 {
-    let entry = p.0;
-    match entry {
-        TpEntry::Varint(_, _) => 0,
-        TpEntry::Bytes(_, _) => 0,
+    match p {
+        TpEntry::Varint(..) => 0,
+        TpEntry::Bytes(..) => 0,
         TpEntry::VersionInfo(_) => 8,
         TpEntry::ScidSource(_) => 0,
         TpEntry::Grease => 14,
     }
 }
 
-// Where each parameter's draws begin, and the place on the tape after all of them.
+// A parameter, and the place on the tape at which its draws begin.
+#[derive(Clone, Copy)]
+pub struct Placed {
+    parameter: TpEntry,
+    at: usize,
+}
+
+// The parameters in profile order, and the place on the tape after all their draws.
 #[derive(Drop)]
-struct Places {
-    of: [usize; 16],
+struct Draws {
+    placed: [Placed; 16],
     next: usize,
 }
 
-fn draw_places(entries: [Parameter; 16], count: usize, at: usize) -> Places
-    requires { (count ≤ 16) × (after_parameters (parameters_in count entries) at < 2 ^ 64) }
-    ensures { (result.next ≡ after_parameters (parameters_in count entries) at) × PlacesOf (parameters_in count entries) at result.of }
+fn place_draws(entries: &[TpEntry], at: usize) -> Draws
+    requires { (length entries.now ≤ 16) × (after_parameters (map parameter_of entries.now) at < 2 ^ 64) }
+    ensures { (result.next ≡ after_parameters (map parameter_of entries.now) at) × (take (length entries.now) result.placed ≡ placed_at entries.now at) }
 {
-    let mut of = [0usize; 16];
-    let mut t = at;
-    let mut i: usize = 0;
-    while i < count {
-        of[i] = t;
-        t = t + parameter_draws(entries[i]);
-        i = i + 1;
+    let mut placed = [Placed {
+        parameter: TpEntry::Grease,
+        at: 0,
+    }; 16];
+    let mut next = at;
+    for (i, &parameter) in entries.iter().enumerate() {
+        placed[i] = Placed {
+            parameter,
+            at: next,
+        };
+        next += parameter_draws(parameter);
     }
-    Places { of, next: t }
+    Draws { placed, next }
 }
 
 // The parameters in the order given.
-fn put_parameters(
-    out: &mut [u8],
-    entries: [Parameter; 16],
-    places: [usize; 16],
-    order: &[usize],
-    scid: &[u8],
-    tape: &[u8],
-) -> usize
-    requires { ParametersRoom entries places order.now scid.now tape.now (length out.old) }
-    ensures { Put (parameters (picked entries places order.now scid.now tape.now)) result out.old out.new }
+fn put_parameters(out: &mut [u8], placed: &[Placed], scid: &[u8], tape: &[u8]) -> usize
+    requires { ParametersRoom placed.now scid.now tape.now (length out.old) }
+    ensures { Put (parameters (sent_of placed.now scid.now tape.now)) result out.old out.new }
 {
-    let mut n: usize = 0;
-    let mut i: usize = 0;
-    while i < order.len() {
-        let k = order[i];
-        n = n + put_parameter(&mut out[n..], entries[k], scid, tape, places[k]);
-        i = i + 1;
+    let mut n = 0;
+    for p in placed {
+        n += put_parameter(&mut out[n..], p.parameter, scid, tape, p.at);
     }
     n
 }
 
-// The first `count` of the entries are the profile's parameters.
+// The entries are the profile's parameters.
 pub fn ext_quic_tp(
     out: &mut [u8],
-    entries: [Parameter; 16],
-    count: usize,
+    entries: &[TpEntry],
     scid: &[u8],
     tape: &[u8],
     at: usize,
 ) -> Wrote
-    requires { (count ≤ 16) × AllVarints (parameters_in count entries) × (length scid.now < 65536) × Room (ext_quic_tp (parameters_in count entries) scid.now tape.now at) (length out.old) (length tape.now) }
-    ensures { Puts (ext_quic_tp (parameters_in count entries) scid.now tape.now at) result out.old out.new }
+    requires { (length entries.now ≤ 16) × AllVarints (map parameter_of entries.now) × (length scid.now < 65536) × Room (ext_quic_tp (map parameter_of entries.now) scid.now tape.now at) (length out.old) (length tape.now) }
+    ensures { Puts (ext_quic_tp (map parameter_of entries.now) scid.now tape.now at) result out.old out.new }
 {
-    let drawn = draw_places(entries, count, at);
-    let mut order = tape::PLACES;
-    let next = tape::shuffle(&mut order[0..count], tape, drawn.next);
-    let places = drawn.of;
-    let n = put_parameters(&mut out[4..], entries, places, &order[0..count], scid, tape);
+    let draws = place_draws(entries, at);
+    let mut placed = draws.placed;
+    let order = &mut placed[..entries.len()];
+    let next = tape::shuffle(order, tape, draws.next);
+    let n = put_parameters(&mut out[4..], order, scid, tape);
     tls_extensions::put_head(out, ext::QUIC_TRANSPORT_PARAMS, n);
     Wrote {
         length: 4 + n,

@@ -1,19 +1,25 @@
 -- A value's bytes in each width, as the code computes them. Assumes nothing.
 use Prim.Native.Nat.{ℕ, ◌+◌, ◌*◌, ◌/◌, ◌%◌, ◌≤◌, ◌<◌}
-use mathlib.Core.Path.{◌≡◌, refl, ◌∙◌}
-use mathlib.Core.List.{List, [], ◌∷◌, ◌++◌}
+use mathlib.Core.Path.{◌≡◌}
+use mathlib.Core.List.{List, [], ◌∷◌}
 use native.Mathlib.Omega.{arith}
 use lib.ListN.{length, take, drop, get_or, length-drop}
 use lib.Seq.{take-add, get_or-drop}
+use Rattle.std.specs.Int.{to_be_bytes, w64}
 use Rattle.wire.specs.Numbers.{digits, number_on, number}
-use Rattle.wire.proofs.NumberLaws.{above, digits-split, number_on-append}
+use Rattle.wire.proofs.NumberLaws.{number_on-append}
 
--- eight bytes are twice four
-pub digits-eight : (v : ℕ) → digits 256 8 v ≡ digits 256 4 (v / 4294967296) ++ digits 256 4 v
-unfolding above
-digits-eight v =
-    let e : v / 256 / 256 / 256 / 256 ≡ v / 4294967296 = omega arith in
-    digits-split 256 4 4 v 8 refl ∙ rw e
+-- eight bytes, each with its own quotient
+pub bytes-eight : (n : ℕ) → to_be_bytes w64 n ≡ digits 256 8 n
+unfolding digits
+bytes-eight n =
+    let q7 : n / 72057594037927936 ≡ n / 256 / 256 / 256 / 256 / 256 / 256 / 256 = omega arith in
+    let q6 : n / 281474976710656 ≡ n / 256 / 256 / 256 / 256 / 256 / 256 = omega arith in
+    let q5 : n / 1099511627776 ≡ n / 256 / 256 / 256 / 256 / 256 = omega arith in
+    let q4 : n / 4294967296 ≡ n / 256 / 256 / 256 / 256 = omega arith in
+    let q3 : n / 16777216 ≡ n / 256 / 256 / 256 = omega arith in
+    let q2 : n / 65536 ≡ n / 256 / 256 = omega arith in
+    rw (q7, q6, q5, q4, q3, q2)
 
 number_on-four : (a : ℕ) (s : List ℕ) → 4 ≤ length s
     → number_on 256 a (take 4 s) ≡ a * 4294967296 + get_or s 0 0 * 16777216 + get_or s 1 0 * 65536 + get_or s 2 0 * 256 + get_or s 3 0

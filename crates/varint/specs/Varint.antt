@@ -1,13 +1,11 @@
 -- Variable-length integers (RFC 9000, section 16; document 01, "Varints" and questions 1 to 3).
-use Rattle.std.specs.Prelude.{ℕ, suc, ◌+◌, ◌*◌, ◌/◌, ◌%◌, ◌^◌, ◌≤◌, ◌<◌, ◌≡◌, cond, List, [], ◌∷◌, length, get_or, take, ltb, leb}
-use Rattle.wire.specs.Answer.{Answer, result, refused, Told, told, ask, unless_refused, IsNumber}
+use Rattle.std.specs.Prelude.{ℕ, suc, ◌+◌, ◌*◌, ◌/◌, ◌%◌, ◌^◌, ◌≤◌, ◌<◌, ◌≡◌, cond, List, [], ◌∷◌, length, get_or, take, ltb, leb, Result, IfOk}
+use Rattle.wire.specs.Answer.{Answer, result, told, ask, unless_refused}
+use Rattle.wire.specs.Refusals.{answer_of, told_of}
+use Rattle.wire.specs.declared.refusals.Refusal.{Refusal}
 use Rattle.wire.specs.Numbers.{digits, number}
 use Rattle.wire.specs.Front.{front}
 use Rattle.varint.specs.declared.Varint.{Varint}
-use Rattle.varint.specs.declared.Width.{Width}
-use Rattle.varint.specs.declared.Width.TheVariants as width-answer
-use Rattle.varint.specs.declared.Got.{Got}
-use Rattle.varint.specs.declared.Got.TheVariants as got
 
 -- ---- The table: the widths in bytes, and the first number that each is too narrow for. A class is a place in it.
 
@@ -72,50 +70,30 @@ read_of s =
     let c = class_at s in
     ask (leb (width c) (length s)) 3 (result (record { value = number 256 (take (width c) s) % ceiling c; width = width c }))
 
--- ---- What the answers of the code say, in 01's terms
-
-abbrev pub width_of : Width → Answer ℕ
-width_of (width-answer.Bytes w) = result w
-width_of (width-answer.Refused n) = refused n
-
-abbrev pub varint_of : Got → Answer Varint
-varint_of (got.Value x) = result x
-varint_of (got.Refused n) = refused n
-
--- and in numbers, for each case: "A refusal carries its number, zero counts", so its width and its value are 0
-abbrev pub width_told : Width → Told ℕ
-width_told (width-answer.Bytes w) = record { number = 0; values = w }
-width_told (width-answer.Refused n) = record { number = n; values = 0 }
-
+-- "A refusal carries its number, zero counts", so its value and its width are 0
 abbrev pub no_varint : Varint
 no_varint = record { value = 0; width = 0 }
 
-abbrev pub varint_told : Got → Told Varint
-varint_told (got.Value x) = record { number = 0; values = x }
-varint_told (got.Refused n) = record { number = n; values = no_varint }
-
 -- ---- The promises: first the meaning, as an answer and in numbers, then the bounds that a caller needs
 
-abbrev pub WidthBounds : Width → Type 0
-WidthBounds (width-answer.Bytes w) = (1 ≤ w) × (w ≤ 8)
-WidthBounds (width-answer.Refused n) = IsNumber n
+abbrev pub WidthBounds : Result ℕ Refusal → Type 0
+WidthBounds r = IfOk r (λ w. (1 ≤ w) × (w ≤ 8))
 
-pub record Sized (v : ℕ) (r : Width) : Type 0 where
-  pub is : width_of r ≡ size_of v
-  pub tells : width_told r ≡ told 0 (size_of v)
+pub record Sized (v : ℕ) (r : Result ℕ Refusal) : Type 0 where
+  pub is : answer_of r ≡ size_of v
+  pub tells : told_of 0 r ≡ told 0 (size_of v)
   pub bounds : WidthBounds r
 
-pub record Written (v : ℕ) (old : List ℕ) (r : Width) (new : List ℕ) : Type 0 where
-  pub is : width_of r ≡ write_of v (length old)
-  pub tells : width_told r ≡ told 0 (write_of v (length old))
+pub record Written (v : ℕ) (old : List ℕ) (r : Result ℕ Refusal) (new : List ℕ) : Type 0 where
+  pub is : answer_of r ≡ write_of v (length old)
+  pub tells : told_of 0 r ≡ told 0 (write_of v (length old))
   pub output : new ≡ after_write v old
   pub bounds : WidthBounds r
 
-abbrev pub VarintBounds : ℕ → Got → Type 0
-VarintBounds n (got.Value x) = (1 ≤ x.width) × (x.width ≤ n) × (x.value < 2 ^ 62)
-VarintBounds n (got.Refused k) = IsNumber k
+abbrev pub VarintBounds : ℕ → Result Varint Refusal → Type 0
+VarintBounds n r = IfOk r (λ x. (1 ≤ x.width) × (x.width ≤ n) × (x.value < 2 ^ 62))
 
-pub record Found (s : List ℕ) (r : Got) : Type 0 where
-  pub is : varint_of r ≡ read_of s
-  pub tells : varint_told r ≡ told no_varint (read_of s)
+pub record Found (s : List ℕ) (r : Result Varint Refusal) : Type 0 where
+  pub is : answer_of r ≡ read_of s
+  pub tells : told_of no_varint r ≡ told no_varint (read_of s)
   pub bounds : VarintBounds (length s) r

@@ -6,81 +6,70 @@ ghost use Rattle.std.specs.Prelude.{◌≡◌, ◌+◌, ◌^◌, ◌≤◌, ◌<
 ghost use Rattle.wire.specs.Numbers.{digits, number};
 ghost use Rattle.wire.specs.Front.{front, Put};
 ghost use Rattle.varint.specs.Varint.{width, ceiling, class, form, shortest, Sized, Written, Found};
+ghost use Rattle.varint.specs.Code.{place, place_of};
 
-use wire::wide;
+use wire::Refusal;
 
 // The widths in bytes, and the first value that each is too narrow for. A class is a place in this table.
 const WIDTHS: [usize; 4] = [1, 2, 4, 8];
 
 const CEILINGS: [u64; 4] = [64, 16384, 1073741824, 4611686018427387904];
 
-// How many bytes a value takes, or the number of the refusal.
-#[derive(Clone, Copy)]
-pub enum Width {
-    Bytes(usize),
-    Refused(u64),
-}
-
 // What a read finds.
-#[derive(Clone, Copy)]
+#[derive(Clone, Copy, PartialEq, Eq, Debug)]
 pub struct Varint {
     pub value: u64,
     pub width: usize,
 }
 
-#[derive(Clone, Copy)]
-pub enum Got {
-    Value(Varint),
-    Refused(u64),
+// A width, by its place in the tables.
+#[derive(Clone, Copy, PartialEq, Eq)]
+enum Class {
+    One,
+    Two,
+    Four,
+    Eight,
 }
 
-// The class of the shortest width that holds the value; 4 where none does.
-fn class_of(value: u64) -> usize
-    ensures { result ≡ class value }
+// The shortest width that holds the value.
+fn class_of(value: u64) -> Option<Class>
+    ensures { place_of result ≡ class value }
 {
     if value < CEILINGS[0] {
-        return 0;
+        return Some(Class::One);
     }
     if value < CEILINGS[1] {
-        return 1;
+        return Some(Class::Two);
     }
     if value < CEILINGS[2] {
-        return 2;
+        return Some(Class::Four);
     }
     if value < CEILINGS[3] {
-        return 3;
+        return Some(Class::Eight);
     }
-    4
+    None
 }
 
-// The width of a class. The places in the table are constants here and above: a table that is indexed by a variable is laid out
-// anew at each call.
-fn width_of(class: usize) -> usize
-    requires { class < 4 }
-    ensures { result ≡ width class }
+// The places in the table are constants here and above: a table that is indexed by a variable is laid out anew at each call.
+fn width_of(class: Class) -> usize
+    ensures { result ≡ width (place class) }
 {
-    if class == 0 {
-        return WIDTHS[0];
+    match class {
+        Class::One => WIDTHS[0],
+        Class::Two => WIDTHS[1],
+        Class::Four => WIDTHS[2],
+        Class::Eight => WIDTHS[3],
     }
-    if class == 1 {
-        return WIDTHS[1];
-    }
-    if class == 2 {
-        return WIDTHS[2];
-    }
-    WIDTHS[3]
 }
 
 // The shortest width of a value; refusal 1 from 2^62 on.
-pub fn size(value: u64) -> Width
+pub fn size(value: u64) -> Result<usize, Refusal>
     ensures { Sized value result }
 {
-    let class = class_of(value);
-    if class < 4 {
-        Width::Bytes(width_of(class))
-    } else {
-        Width::Refused(1)
-    }
+    let Some(class) = class_of(value) else {
+        return Err(Refusal::ValueTooLarge);
+    };
+    Ok(width_of(class))
 }
 
 // Writes the four low bytes of n.
@@ -88,55 +77,43 @@ fn put4(out: &mut [u8], n: u64)
     requires { 4 ≤ length out.old }
     ensures { out.new ≡ front (digits 256 4 n) out.old }
 {
-    out[0] = (n / 256 / 256 / 256 % 256) as u8;
-    out[1] = (n / 256 / 256 % 256) as u8;
-    out[2] = (n / 256 % 256) as u8;
-    out[3] = (n % 256) as u8;
+    out[..4].copy_from_slice(&n.to_be_bytes()[4..]);
 }
 
 fn put8(out: &mut [u8], n: u64)
     requires { 8 ≤ length out.old }
     ensures { out.new ≡ front (digits 256 8 n) out.old }
 {
-    put4(out, n / 4294967296);
-    put4(&mut out[4..], n);
+    out[..8].copy_from_slice(&n.to_be_bytes());
 }
 
 // Writes the value in the width of a class that holds it: the class stands in the two top bits.
-fn put_form(out: &mut [u8], class: usize, value: u64)
-    requires { (class < 4) × (width class ≤ length out.old) × (value < ceiling class) }
-    ensures { out.new ≡ front (form class value) out.old }
+fn put_form(out: &mut [u8], class: Class, value: u64)
+    requires { (width (place class) ≤ length out.old) × (value < ceiling (place class)) }
+    ensures { out.new ≡ front (form (place class) value) out.old }
 {
-    if class == 0 {
-        out[0] = value as u8;
-        return;
+    match class {
+        Class::One => out[0] = value as u8,
+        Class::Two => wire::w16(out, (CEILINGS[1] + value) as u16),
+        Class::Four => put4(out, 2 * CEILINGS[2] + value),
+        Class::Eight => put8(out, 3 * CEILINGS[3] + value),
     }
-    if class == 1 {
-        wire::w16(out, (CEILINGS[1] + value) as u16);
-        return;
-    }
-    if class == 2 {
-        put4(out, 2 * CEILINGS[2] + value);
-        return;
-    }
-    put8(out, 3 * CEILINGS[3] + value);
 }
 
 // Writes a value in its shortest width over the front of the output; later bytes stay. Refusals leave all of it: 1 from 2^62 on,
 // 2 where the output is shorter than the width.
-pub fn write(value: u64, out: &mut [u8]) -> Width
+pub fn write(value: u64, out: &mut [u8]) -> Result<usize, Refusal>
     ensures { Written value out.old result out.new }
 {
-    let class = class_of(value);
-    if 4 <= class {
-        return Width::Refused(1);
-    }
+    let Some(class) = class_of(value) else {
+        return Err(Refusal::ValueTooLarge);
+    };
     let width = width_of(class);
     if out.len() < width {
-        return Width::Refused(2);
+        return Err(Refusal::NoRoomForVarint);
     }
     put_form(out, class, value);
-    Width::Bytes(width)
+    Ok(width)
 }
 
 // The shortest width of a value that has one, for callers that know it.
@@ -144,10 +121,7 @@ pub fn varint_length(value: u64) -> usize
     requires { value < 2 ^ 62 }
     ensures { (result ≡ width (class value)) × (result ≤ 8) }
 {
-    match size(value) {
-        Width::Bytes(n) => n,
-        Width::Refused(_) => 0,
-    }
+    size(value).unwrap()
 }
 
 // Writes a value that has a varint over the front of an output that holds it, and gives the width.
@@ -155,10 +129,7 @@ pub fn put_varint(out: &mut [u8], value: u64) -> usize
     requires { (value < 2 ^ 62) × (width (class value) ≤ length out.old) }
     ensures { Put (shortest value) result out.old out.new }
 {
-    match write(value, out) {
-        Width::Bytes(n) => n,
-        Width::Refused(_) => 0,
-    }
+    write(value, out).unwrap()
 }
 
 // The number that the four bytes from a place on write.
@@ -166,46 +137,46 @@ fn be32(b: &[u8], at: usize) -> u64
     requires { at + 4 ≤ length b.now }
     ensures { (result ≡ number 256 (take 4 (drop at b.now))) × (result < 4294967296) }
 {
-    wide(b[at]) * 16777216 + wide(b[at + 1]) * 65536 + wide(b[at + 2]) * 256 + wide(b[at + 3])
+    u64::from(u32::from_be_bytes([b[at], b[at + 1], b[at + 2], b[at + 3]]))
 }
 
-fn whole(value: u64, width: usize) -> Got
-    ensures { result ≡ Got.Value (record { value = value; width = width }) }
+fn whole(value: u64, width: usize) -> Result<Varint, Refusal>
+    ensures { result ≡ Ok (record { value = value; width = width }) }
 {
-    Got::Value(Varint { value, width })
+    Ok(Varint { value, width })
 }
 
 // Reads the varint at the front of the input, in any width; refusal 3 where bytes of it are missing. Each width goes on from the
 // bytes of the one before, so that no byte is read twice and the whole is small enough to be inlined.
-pub fn read(input: &[u8]) -> Got
+pub fn read(input: &[u8]) -> Result<Varint, Refusal>
     ensures { Found input.now result }
 {
     let n = input.len();
     if n < WIDTHS[0] {
-        return Got::Refused(3);
+        return Err(Refusal::VarintCut);
     }
-    let first = wide(input[0]);
+    let first = u64::from(input[0]);
     let class = first / 64;
     let one = first % 64;
     if class == 0 {
         return whole(one, WIDTHS[0]);
     }
     if n < WIDTHS[1] {
-        return Got::Refused(3);
+        return Err(Refusal::VarintCut);
     }
-    let two = one * 256 + wide(input[1]);
+    let two = one * 256 + u64::from(input[1]);
     if class == 1 {
         return whole(two, WIDTHS[1]);
     }
     if n < WIDTHS[2] {
-        return Got::Refused(3);
+        return Err(Refusal::VarintCut);
     }
-    let four = (two * 256 + wide(input[2])) * 256 + wide(input[3]);
+    let four = (two * 256 + u64::from(input[2])) * 256 + u64::from(input[3]);
     if class == 2 {
         return whole(four, WIDTHS[2]);
     }
     if n < WIDTHS[3] {
-        return Got::Refused(3);
+        return Err(Refusal::VarintCut);
     }
     whole(four * 4294967296 + be32(input, 4), WIDTHS[3])
 }

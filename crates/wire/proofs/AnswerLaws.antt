@@ -3,7 +3,10 @@ use Prim.Native.Nat.{ℕ}
 use mathlib.Core.Path.{◌≡◌, refl}
 use mathlib.Core.Bool.{Bool, true, false}
 use native.Mathlib.Omega.{arith}
-use Rattle.wire.specs.Answer.{Answer, result, refused, ask, ask_for, and_then}
+use Rattle.std.specs.Prelude.{Result, Ok, Err}
+use Rattle.wire.specs.Answer.{Answer, result, refused, told, ask, ask_for, and_then}
+use Rattle.wire.specs.Refusals.{answer_of, told_of}
+use Rattle.wire.specs.declared.refusals.Refusal.{Refusal}
 
 -- a result is no refusal
 pub apart : {A : Type 0} {a : A} {n : ℕ} → refused n ≡ result a → ⊥
@@ -35,3 +38,16 @@ module _ {A B : Type 0} where
   pub and_then-agree : (first : Answer A) (f g : A → Answer B) → ((a : A) → first ≡ result a → f a ≡ g a) → and_then first f ≡ and_then first g
   and_then-agree (result a) f g h = h a refl
   and_then-agree (refused k) f g h = refl
+
+-- what a case tells in numbers is what its answer does, so a promise needs the answer alone
+pub told-answer : {A : Type 0} (zeros : A) (r : Result A Refusal) → told_of zeros r ≡ told zeros (answer_of r)
+told-answer zeros (Ok a) = refl
+told-answer zeros (Err e) = refl
+
+-- where the answer is a result, the code gave it
+pub ok-of : {A : Type 0} {a : A} (r : Result A Refusal) → answer_of r ≡ result a → r ≡ Ok a
+ok-of (Ok b) e = cc
+ok-of (Err k) e = absurd (apart e)
+
+pub same-ok : {A E : Type 0} {a b : A} → ◌≡◌ {A = Result A E} (Ok a) (Ok b) → a ≡ b
+same-ok e = cc

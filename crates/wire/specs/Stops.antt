@@ -1,10 +1,11 @@
 -- Where a call of document 01 stops: the number of the first question to which the answer is "no", and the place in the input at which it
 -- was asked.
-use Rattle.std.specs.Prelude.{ℕ, ◌≤◌, ◌≡◌}
+use Rattle.std.specs.Prelude.{ℕ, ◌≤◌, ◌≡◌, Some, None, IfSome}
+use Rattle.std.specs.Prelude as std
 use Rattle.std.proofs.Math.Option.{Option, none, some}
-use Rattle.wire.specs.Answer.{Answer, result, refused, IsNumber}
+use Rattle.wire.specs.Answer.{Answer, result, refused}
+use Rattle.wire.specs.Refusals.{question}
 use Rattle.wire.specs.declared.Stop.{Stop}
-use Rattle.wire.specs.declared.Stop.TheVariants as stop
 
 pub record Stopped : Type 0 where
   pub number : ℕ
@@ -13,10 +14,10 @@ pub record Stopped : Type 0 where
 abbrev pub stopped : ℕ → ℕ → Stopped
 stopped number place = record { number = number; place = place }
 
--- what the enum stands for: none where all is accepted
-abbrev pub stop_of : Stop → Option Stopped
-stop_of stop.Nowhere = none
-stop_of (stop.At number place) = some (stopped number place)
+-- what the code answers: none where all is accepted
+abbrev pub stop_of : std.Option Stop → Option Stopped
+stop_of None = none
+stop_of (Some s) = some (stopped (question s.refusal) s.place)
 
 -- the number of a stop is the number of the answer, and there is none exactly where there is a result
 abbrev pub Numbered : {A : Type 0} → Option Stopped → Answer A → Type 0
@@ -30,7 +31,6 @@ abbrev pub StopWithin : ℕ → Option Stopped → Type 0
 StopWithin length none = Unit {0}
 StopWithin length (some s) = s.place ≤ length
 
--- the same of the enum, with the bounds of its number
-abbrev pub StopBounds : ℕ → Stop → Type 0
-StopBounds length stop.Nowhere = Unit {0}
-StopBounds length (stop.At number place) = IsNumber number × (place ≤ length)
+-- the same of what the code answers; its number is one of 1 to 27 by the type of a refusal
+abbrev pub StopBounds : ℕ → std.Option Stop → Type 0
+StopBounds length r = IfSome r (λ s. s.place ≤ length)

@@ -2,24 +2,21 @@
 // tls.rs), and bytes copied to the front of a lent output. Later bytes of an output stay.
 #![tactic(auto)]
 
+pub mod refusals;
+
 ghost use Rattle.std.specs.Prelude.{◌≡◌, [], ◌∷◌, ◌*◌, ◌≤◌, ◌<◌, length, take};
 ghost use Rattle.wire.specs.Numbers.{digits, number};
 ghost use Rattle.wire.specs.Front.{front, Put};
 ghost use Rattle.wire.specs.Vectors.{words};
 
-// A byte as a wider number: its bound is known where it is used.
-pub fn wide(x: u8) -> u64
-    ensures { (result ≡ x) × (result < 256) }
-{
-    x as u64
-}
+pub use refusals::Refusal;
 
 // The 16-bit number at the front of b.
 pub fn be16(b: &[u8]) -> u16
     requires { 2 ≤ length b.now }
     ensures { result ≡ number 256 (take 2 b.now) }
 {
-    (wide(b[0]) * 256 + wide(b[1])) as u16
+    u16::from_be_bytes([b[0], b[1]])
 }
 
 // Writes a byte.
@@ -35,8 +32,7 @@ pub fn w16(out: &mut [u8], v: u16)
     requires { 2 ≤ length out.old }
     ensures { out.new ≡ front (digits 256 2 v) out.old }
 {
-    out[0] = (v / 256 % 256) as u8;
-    out[1] = (v % 256) as u8;
+    out[..2].copy_from_slice(&v.to_be_bytes());
 }
 
 // Writes the three low bytes of v.
@@ -44,9 +40,7 @@ pub fn w24(out: &mut [u8], v: u32)
     requires { 3 ≤ length out.old }
     ensures { out.new ≡ front (digits 256 3 v) out.old }
 {
-    out[0] = (v / 256 / 256 % 256) as u8;
-    out[1] = (v / 256 % 256) as u8;
-    out[2] = (v % 256) as u8;
+    out[..3].copy_from_slice(&v.to_be_bytes()[1..]);
 }
 
 // Copies src to the front of out and gives its length.
@@ -55,11 +49,7 @@ pub fn put_bytes(out: &mut [u8], src: &[u8]) -> usize
     ensures { Put src.now result out.old out.new }
 {
     let n = src.len();
-    let mut i: usize = 0;
-    while i < n {
-        out[i] = src[i];
-        i = i + 1;
-    }
+    out[..n].copy_from_slice(src);
     n
 }
 
@@ -68,21 +58,17 @@ pub fn put_words(out: &mut [u8], values: &[u16]) -> usize
     requires { 2 * length values.now ≤ length out.old }
     ensures { Put (words values.now) result out.old out.new }
 {
-    let n = values.len();
-    let mut at: usize = 0;
-    let mut i: usize = 0;
-    while i < n {
-        w16(&mut out[at..], values[i]);
-        at = at + 2;
-        i = i + 1;
+    let mut at = 0;
+    for &v in values {
+        w16(&mut out[at..], v);
+        at += 2;
     }
     at
 }
 
-// Where a reader or joiner stopped: the number of the refusal and the place at which the question was answered "no"; nowhere where all was
-// accepted.
-#[derive(Clone, Copy)]
-pub enum Stop {
-    Nowhere,
-    At(u64, usize),
+// Where a reader or joiner stopped: the refusal, and the place at which its question was answered "no".
+#[derive(Clone, Copy, PartialEq, Eq, Debug)]
+pub struct Stop {
+    pub refusal: Refusal,
+    pub place: usize,
 }

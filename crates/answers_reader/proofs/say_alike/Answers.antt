@@ -15,10 +15,10 @@ returns-then-alike c =
     (says-result (yes_word ∷ []) put.result args.out.now put.new.out
     (written_one yes_word put.result args.out.now put.new.out put.ensures))
 
-pub returns : goal.returns
-returns c =
+pub returns-else-alike : goal.returns-else-alike
+returns-else-alike c =
     let args = c.args in
-    let put = c.put_text-2 in
+    let put = c.put_text-else-alike in
     let verdict = sym c.alike.ensures ∙ c.if-alike.false in
     rw verdict
     (says-result (no_word ∷ []) put.result args.out.now put.new.out

@@ -1,24 +1,13 @@
 -- The answer of the splitter's second call as one number. Assumes nothing.
-use Rattle.std.proofs.Common.{ap, arith}
+use Rattle.std.proofs.Common.{ap, ◌∙◌}
 use Rattle.compare_calls.specs.Calls.{coded_next}
 use Rattle.compare_calls.proofs.compare_next.Goals as goal
 
-pub overflow_add-result : goal.overflow_add-result
-overflow_add-result c =
-    let next-record = c.next_record in
-    omega (arith, rw c.in-Refused.is at next-record.ensures.bounds)
+pub returns-in-Ok-Some : goal.returns-in-Ok-Some
+returns-in-Ok-Some c = ap coded_next (rw (c.in-Ok-Some.is, c.in-Ok-Some.field-0-is) at c.next_record.ensures.is)
 
-pub returns-in-Record : goal.returns-in-Record
-returns-in-Record c =
-    let next-record = c.next_record in
-    ap coded_next (rw c.in-Record.is at next-record.ensures.is)
+pub returns-in-Ok-None : goal.returns-in-Ok-None
+returns-in-Ok-None c = ap coded_next (rw (c.in-Ok-None.is, c.in-Ok-None.field-0-is) at c.next_record.ensures.is)
 
-pub returns-in-End : goal.returns-in-End
-returns-in-End c =
-    let next-record = c.next_record in
-    ap coded_next (rw c.in-End.is at next-record.ensures.is)
-
-pub returns-in-Refused : goal.returns-in-Refused
-returns-in-Refused c =
-    let next-record = c.next_record in
-    ap coded_next (rw c.in-Refused.is at next-record.ensures.is)
+pub returns-in-Err : goal.returns-in-Err
+returns-in-Err c = c.coded.ensures ∙ ap coded_next (rw c.in-Err.is at c.next_record.ensures.is)

@@ -1,13 +1,10 @@
 -- The answer of `read` as one number, by its value. Assumes nothing.
-use Rattle.std.proofs.Common.{ap, arith}
+use Rattle.std.proofs.Common.{ap}
 use Rattle.compare_calls.specs.Sums.{coded_value}
 use Rattle.compare_calls.proofs.compare_varint_value.Goals as goal
 
-pub overflow_add-result : goal.overflow_add-result
-overflow_add-result c = omega (arith, rw c.in-Refused.is at c.read.ensures.bounds)
+pub returns-in-Ok : goal.returns-in-Ok
+returns-in-Ok c = ap coded_value (rw c.in-Ok.is at c.read.ensures.is)
 
-pub returns-in-Value : goal.returns-in-Value
-returns-in-Value c = ap coded_value (rw c.in-Value.is at c.read.ensures.is)
-
-pub returns-in-Refused : goal.returns-in-Refused
-returns-in-Refused c = ap coded_value (rw c.in-Refused.is at c.read.ensures.is)
+pub returns-in-Err : goal.returns-in-Err
+returns-in-Err c = rw c.number.ensures.is (ap coded_value (rw c.in-Err.is at c.read.ensures.is))

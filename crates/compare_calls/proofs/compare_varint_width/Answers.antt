@@ -1,13 +1,15 @@
 -- The answer of `read` as one number, by its width. Assumes nothing.
-use Rattle.std.proofs.Common.{ap, arith}
+use Rattle.std.proofs.Common.{◌≡◌, ap, ◌∙◌}
+use borrow.Author.Rules.{rules}
+use Rattle.wire.specs.Answer.{result, and_then, coded}
+use Rattle.wire.specs.Refusals.{answer_of}
+use Rattle.varint.specs.declared.Varint.{Varint}
+use Rattle.compare_calls.proofs.SumLaws.{width-coded}
 use Rattle.compare_calls.specs.Sums.{coded_width}
 use Rattle.compare_calls.proofs.compare_varint_width.Goals as goal
 
-pub overflow_add-result : goal.overflow_add-result
-overflow_add-result c = omega (arith, rw c.in-Refused.is at c.read.ensures.bounds)
-
-pub returns-in-Value : goal.returns-in-Value
-returns-in-Value c = ap coded_width (rw c.in-Value.is at c.read.ensures.is)
-
-pub returns-in-Refused : goal.returns-in-Refused
-returns-in-Refused c = ap coded_width (rw c.in-Refused.is at c.read.ensures.is)
+pub returns : goal.returns
+returns c =
+    let read = c.read in
+    let mapped : answer_of c.map.result ≡ and_then (answer_of read.result) (λ (x : Varint). result x.width) = search rules in
+    c.coded.ensures ∙ ap coded mapped ∙ width-coded (answer_of read.result) ∙ ap coded_width read.ensures.is

@@ -1,24 +1,11 @@
--- The number of the refusal as one number. Assumes nothing.
-use native.Mathlib.Omega.{arith}
+-- The refusal as one number. Assumes nothing.
 use Rattle.fingerprint.specs.Reader.{read}
 use Rattle.fingerprint.proofs.Accepted.{read-numbered}
-use Rattle.crustdelta_c.proofs.ReadLaws.{refusal-bound, none-refused, one-refused}
+use Rattle.crustdelta_c.proofs.ReadLaws.{none-refused, one-refused}
 use Rattle.crustdelta_c.proofs.crustdelta_read.Goals as goal
 
-pub overflow_add-result : goal.overflow_add-result
-overflow_add-result c =
-    let hello = c.args.hello.now in
-    let refusal = c.refusal-number in
-    omega (arith, refusal-bound refusal.result (read hello) (read-numbered hello) refusal.ensures)
+pub returns-in-None : goal.returns-in-None
+returns-in-None c = let h = c.args.hello.now in none-refused (read h) (read-numbered h) c.in-None.ensures
 
-pub returns-then-number-eq0 : goal.returns-then-number-eq0
-returns-then-number-eq0 c =
-    let hello = c.args.hello.now in
-    let refusal = c.refusal-number in
-    none-refused refusal.result (read hello) (read-numbered hello) refusal.ensures (omega (arith, c.if-number-eq0.true))
-
-pub returns-else-number-eq0 : goal.returns-else-number-eq0
-returns-else-number-eq0 c =
-    let hello = c.args.hello.now in
-    let refusal = c.refusal-number in
-    one-refused refusal.result (read hello) refusal.ensures (omega arith)
+pub returns-in-Some : goal.returns-in-Some
+returns-in-Some c = let h = c.args.hello.now in rw c.coded.ensures (one-refused (read h) c.in-Some.refusal c.in-Some.ensures)

@@ -1,21 +1,13 @@
 -- `first_extension` is where the fields end, or the hello. Assumes nothing.
-use mathlib.Core.Path.{sym, subst}
-use Rattle.fingerprint.specs.Code.{FieldsAs, FieldsFound}
-use Rattle.fingerprint.specs.declared.head.Head.{Head}
+use mathlib.Core.Path.{sym}
+use Rattle.wire.specs.Refusals.{question}
 use Rattle.ext_walk.proofs.StepLaws.{first-refused, first_found}
 use Rattle.ext_walk.proofs.first_extension.Goals as goal
-use Rattle.ext_walk.proofs.first_extension.Goals.{In-Fields}
 
-found : (c : In-Fields) → FieldsFound c.args.hello.now c.in-Fields.field-0 c.in-Fields.field-1 c.in-Fields.block
-found c = subst (λ (x : Head). FieldsAs x c.args.hello.now) c.in-Fields.is c.read_fields.ensures
+pub returns-in-Ok : goal.returns-in-Ok
+returns-in-Ok c =
+    let f = c.in-Ok.ensures in
+    sym (first_found c.args.hello.now f.found c.in-Ok.head.block f.inside f.is f.block-is)
 
-pub returns-in-Fields : goal.returns-in-Fields
-returns-in-Fields c =
-    let f = found c in
-    sym (first_found c.args.hello.now f.found c.in-Fields.block f.inside f.is f.block-is)
-
-pub returns-in-Refused : goal.returns-in-Refused
-returns-in-Refused c =
-    let h = c.args.hello.now in
-    sym (first-refused h c.in-Refused.field-0
-    (subst (λ (x : Head). FieldsAs x h) c.in-Refused.is c.read_fields.ensures).0)
+pub returns-in-Err : goal.returns-in-Err
+returns-in-Err c = sym (first-refused c.args.hello.now (question c.in-Err.field-0) c.in-Err.ensures)

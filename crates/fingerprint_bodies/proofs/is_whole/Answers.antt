@@ -15,9 +15,9 @@ pub returns-then-width-eq1 : goal.returns-then-width-eq1
 returns-then-width-eq1 c =
     let one : c.args.width ≡ 1 = c.if-width-eq1.true in
     let h : 1 ≤ length c.args.body.now = search rules in
-    rw one (whole-asked 1 c.args.body.now c.wide.result (c.wide.ensures.0 ∙ sym (number-one c.args.body.now h)) h)
+    rw one (whole-asked 1 c.args.body.now c.from.result (c.from.ensures ∙ sym (number-one c.args.body.now h)) h)
 
 pub returns : goal.returns
 returns c =
     let two : c.args.width ≡ 2 = omega (arith, c.requires, c.if-width-eq1.false) in
-    rw two (whole-asked 2 c.args.body.now c.be16.result c.be16.ensures (search rules))
+    rw two (whole-asked 2 c.args.body.now c.from-2.result (c.from-2.ensures ∙ c.be16.ensures) (search rules))

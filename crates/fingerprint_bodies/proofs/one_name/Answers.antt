@@ -9,14 +9,14 @@ pub returns-then-n-lt2 : goal.returns-then-n-lt2
 returns-then-n-lt2 c = name-short c.args.rest.now c.if-n-lt2.true
 
 pub returns-then-length-eq0 : goal.returns-then-length-eq0
-returns-then-length-eq0 c = name-empty c.args.rest.now (search rules) (sym c.wide-length.ensures.0 ∙ c.if-length-eq0.true)
+returns-then-length-eq0 c = name-empty c.args.rest.now (search rules) (sym c.from-length.ensures ∙ c.if-length-eq0.true)
 
 pub returns-then-n-length : goal.returns-then-n-length
-returns-then-n-length c = name-cut c.args.rest.now (search rules) (omega (arith, c.wide-length.ensures, c.if-n-length.true))
+returns-then-n-length c = name-cut c.args.rest.now (search rules) (omega (arith, c.from-length.ensures, c.if-n-length.true))
 
 pub returns : goal.returns
 returns c =
     record {
-      is = name-there c.args.rest.now (search rules) c.wide-length.result c.wide-length.ensures.0 (search rules) (search rules);
+      is = name-there c.args.rest.now (search rules) c.from-length.result c.from-length.ensures (search rules) (search rules);
       within = search rules;
     }

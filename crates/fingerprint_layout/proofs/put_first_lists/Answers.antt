@@ -9,6 +9,7 @@ use Rattle.fingerprint_bodies.specs.Forms.{words_in, group_of}
 use Rattle.fingerprint_lists.proofs.WalkLaws.{share_groups, groups-few}
 use Rattle.fingerprint.proofs.NameLaws.{length-part-of}
 use Rattle.fingerprint_layout.proofs.PlaceLaws.{words-first, words-next, over-end}
+use Rattle.fingerprint_layout.proofs.PieceLaws.{plainly}
 use Rattle.fingerprint_layout.proofs.FoundLaws.{few_words, groups-held, shares-held}
 use Rattle.fingerprint_layout.proofs.WrittenLaws.{first-parts}
 use native.Mathlib.Omega.{arith}
@@ -19,7 +20,7 @@ few-suites : (c : After-part) → length c.part.result.now ≤ 128
 few-suites c =
     let args = c.args in
     let pre = c.requires in
-    omega (arith, ap length c.part.ensures, length-part-of args.hello.now args.suites pre.1.suites-inside, pre.1.suites-few)
+    omega (arith, ap length c.part.ensures, length-part-of args.hello.now args.head.suites pre.1.suites-inside, pre.1.suites-few)
 
 pub put_list-suite_count-requires : goal.put_list-suite_count-requires
 put_list-suite_count-requires c =
@@ -34,8 +35,8 @@ part-requires-2 c =
 pub put_list-group_count-requires : goal.put_list-group_count-requires
 put_list-group_count-requires c =
     let pre = c.requires in
-    let put-words = c.put_words in
-    let g = groups-held pre.1 c.part-2.ensures c.after.ensures in omega (arith, g.few, put-words.auto)
+    let put-numbers = c.put_numbers in
+    let g = groups-held pre.1 c.part-2.ensures c.after.ensures in omega (arith, g.few, put-numbers.auto)
 
 pub part-requires-3 : goal.part-requires-3
 part-requires-3 c =
@@ -47,9 +48,9 @@ put_shares-share_count-requires c =
     let pre = c.requires in
     let clear = c.clear in
     let put-list = c.put_list-suite_count in
-    let put-words = c.put_words in
+    let put-numbers = c.put_numbers in
     let put-list2 = c.put_list-group_count in
-    ((shares-held pre.1 c.part-3.ensures c.after-2.ensures).found, omega (arith, put-list2.auto, put-words.auto, put-list.auto, clear.auto, pre.0))
+    ((shares-held pre.1 c.part-3.ensures c.after-2.ensures).found, omega (arith, put-list2.auto, put-numbers.auto, put-list.auto, clear.auto, pre.0))
 
 pub returns : goal.returns
 returns c =
@@ -61,7 +62,7 @@ returns c =
     let part = middle.part in
     let told = (goal.at.returns c).After-part in
     let put-list = middle.put_list-suite_count in
-    let put-words = middle.put_words in
+    let put-numbers = middle.put_numbers in
     let part2 = c.part-2 in
     let after = c.after in
     let put-list2 = c.put_list-group_count in
@@ -69,7 +70,7 @@ returns c =
     let groups = groups-held pre.1 part2.ensures after.ensures in
     let shares = shares-held pre.1 c.part-3.ensures after2.ensures in
     let one = words-first (words_in part.result.now) args.out.now (few_words part.result.now (few-suites told)) (omega arith) clear.ensures put-list.ensures.1 in
-    let two = words-next one args.types.now (omega (arith, pre.2)) (omega arith) put-words.ensures in
+    let two = words-next one args.types.now (omega (arith, pre.2)) (omega arith) (plainly 2 args.types.now _ put-numbers.ensures) in
     let three = words-next two (words_in after.result.now) (few_words after.result.now groups.few) (omega arith) put-list2.ensures.1 in
     let four = words-next three (share_groups after2.result.now) (groups-few after2.result.now shares.found) (omega arith) c.put_shares-share_count.ensures.1 in
     let suites-are = ap words_in part.ensures in

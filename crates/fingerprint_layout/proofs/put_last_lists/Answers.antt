@@ -9,7 +9,7 @@ use Rattle.fingerprint_lists.specs.Arrays.{placed}
 use Rattle.fingerprint_lists.proofs.WalkLaws.{name_spans, spans-few}
 use Rattle.fingerprint.specs.Code.{note_of}
 use Rattle.fingerprint_layout.specs.Layout.{littles}
-use Rattle.fingerprint_layout.proofs.PieceLaws.{length-littles}
+use Rattle.fingerprint_layout.proofs.PieceLaws.{length-littles, plainly}
 use Rattle.fingerprint_layout.proofs.PlaceLaws.{words-first, words-next, ranges-next, over-end}
 use Rattle.fingerprint_layout.proofs.FoundLaws.{few_words, algorithms-held, versions-held, protocols-held, protocols-low}
 use Rattle.fingerprint_layout.proofs.WrittenLaws.{last-parts}
@@ -54,24 +54,24 @@ put_names-protocol_count-requires c =
     let put-list2 = c.put_list-version_count in
     ((protocols-held pre.1 c.part-3.ensures c.after-3.ensures).found, protocols-low pre.1 c.part-3.ensures c.after-3.ensures, omega (arith, put-list2.auto, put-list.auto, clear.auto, pre.0))
 
-pub slice_bounds-put_ids-count : goal.slice_bounds-put_ids-count
-slice_bounds-put_ids-count c =
+pub slice_bounds-put_numbers-count : goal.slice_bounds-put_numbers-count
+slice_bounds-put_numbers-count c =
     let pre = c.requires in
     let clear = c.clear in
     let put-list = c.put_list-algorithm_count in
     let put-list2 = c.put_list-version_count in
     omega (arith, c.put_names-protocol_count.auto, put-list2.auto, put-list.auto, clear.auto, pre.0)
 
-pub slice_bounds-put_ids-start : goal.slice_bounds-put_ids-start
-slice_bounds-put_ids-start c = slice_bounds-put_ids-count c
+pub slice_bounds-put_numbers-start : goal.slice_bounds-put_numbers-start
+slice_bounds-put_numbers-start c = slice_bounds-put_numbers-count c
 
-pub put_ids-requires : goal.put_ids-requires
-put_ids-requires c =
+pub put_numbers-requires : goal.put_numbers-requires
+put_numbers-requires c =
     let pre = c.requires in
     let clear = c.clear in
     let put-list = c.put_list-algorithm_count in
     let put-list2 = c.put_list-version_count in
-    (omega (arith, c.put_names-protocol_count.auto, put-list2.auto, put-list.auto, clear.auto, pre.0), pre.2)
+    omega (arith, c.put_names-protocol_count.auto, put-list2.auto, put-list.auto, clear.auto, pre.0, pre.2)
 
 pub shape_of-out : goal.shape_of-out
 shape_of-out c =
@@ -79,7 +79,7 @@ shape_of-out c =
     let put-list = c.put_list-algorithm_count in
     let put-list2 = c.put_list-version_count in
     let put-names = c.put_names-protocol_count in
-    omega (arith, c.put_ids.auto, put-names.auto, put-list2.auto, put-list.auto, clear.auto)
+    omega (arith, c.put_numbers.auto, put-names.auto, put-list2.auto, put-list.auto, clear.auto)
 
 pub returns : goal.returns
 returns c =
@@ -110,5 +110,5 @@ returns c =
       algorithm-count = put-list.ensures.0 ∙ ap length algorithms.is;
       version-count = put-list2.ensures.0 ∙ ap length versions.is;
       protocol-count = put-names.ensures.0 ∙ ap length protocols-are;
-      put = put_as (last-parts args.ids.now algorithms.is versions.is protocols-are) (joined (over-end three) (filled ids-long c.put_ids.ensures));
+      put = put_as (last-parts args.ids.now algorithms.is versions.is protocols-are) (joined (over-end three) (filled ids-long (plainly 8 args.ids.now _ c.put_numbers.ensures)));
     }

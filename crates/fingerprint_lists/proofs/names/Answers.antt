@@ -8,20 +8,20 @@ use Rattle.fingerprint_lists.proofs.WalkLaws.{NameTurn, names-start, spans-few, 
 use Rattle.fingerprint_lists.proofs.ReadLaws.{spans-same}
 use native.Mathlib.Omega.{arith}
 use Rattle.fingerprint_lists.proofs.names.Goals as goal
-use Rattle.fingerprint_lists.proofs.names.Goals.{In-Whole}
+use Rattle.fingerprint_lists.proofs.names.Goals.{In-Some}
 
-turn : (c : In-Whole) →
+turn : (c : In-Some) →
     let args = c.args in
     let loop = c.loop-at in
-    let length = c.in-Whole.length in
-    NameTurn args.start args.list.now loop.k loop.at (loop.at + 1 + length) (span (args.start + loop.at + 1) length)
+    let length = c.in-Some.length in
+    NameTurn args.start args.list.now loop.k loop.at (loop.at + (1 + length)) (span (args.start + loop.at + 1) length)
 turn c =
     let args = c.args in
     let loop = c.loop-at in
     let one_name = c.one_name in
-    name-turn args.start loop.invariant.0 c.loop-at-test.true one_name.result one_name.ensures c.in-Whole.is
+    name-turn args.start loop.invariant.0 c.loop-at-test.true one_name.result one_name.ensures c.in-Some.is
 
-room : (c : In-Whole) → c.loop-at.k < 16
+room : (c : In-Some) → c.loop-at.k < 16
 room c =
     let start = c in
     filled-room c.loop-at.invariant.1 (turn c).first (spans-few start.args.start start.args.list.now start.requires.0)

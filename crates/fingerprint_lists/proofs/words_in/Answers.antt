@@ -1,6 +1,6 @@
 -- The loop keeps `Filled`: the words before place i stand in the array. Assumes nothing.
 use mathlib.Core.Path.{refl, sym}
-use Prim.Native.Nat.{◌*◌, ◌/◌, ◌≤◌, zero-le}
+use Prim.Native.Nat.{◌*◌, ◌/◌, ◌≤◌}
 use lib.ListN.{length}
 use Rattle.wire.proofs.ListLaws.{length-part-to-end}
 use Rattle.fingerprint_bodies.specs.Forms.{words_in}
@@ -11,7 +11,7 @@ use native.Mathlib.Omega.{arith}
 use Rattle.fingerprint_lists.proofs.words_in.Goals as goal
 
 pub loop-i-init : goal.loop-i-init
-loop-i-init c = (zero-le, filled-start 64 0 refl)
+loop-i-init c = filled-start 64 0 refl
 
 pub be16-requires : goal.be16-requires
 be16-requires c = omega (arith, length-part-to-end c.args.list.now (2 * c.loop-i.i), c.loop-i-test.true)
@@ -21,10 +21,10 @@ loop-i-preserved c =
     let l = c.loop-i in
     let s = c.args.list.now in
     let few : length (words_in s) ≤ 64 = omega (arith, length-words_in s, c.requires) in
-    (omega arith, filled_next l.invariant.1 (words-next s l.i c.loop-i-test.true c.be16.ensures) few)
+    filled_next l.invariant (words-next s l.i c.loop-i-test.true c.be16.ensures) few
 
 pub returns : goal.returns
 returns c =
     let l = c.loop-i in
     let s = c.args.list.now in
-    words_same (words_in s) l.items (length s / 2) (filled-end l.invariant.1 (words-end s l.i c.loop-i-test.false)) (sym (length-words_in s))
+    words_same (words_in s) l.items (length s / 2) (filled-end l.invariant (words-end s l.i c.loop-i-test.false)) (sym (length-words_in s))

@@ -10,28 +10,28 @@ use Rattle.fingerprint_parameters.proofs.ParameterLaws as laws
 use Rattle.fingerprint_parameters.proofs.ParameterLaws.{Next, cut-there, ids-end}
 use native.Mathlib.Omega.{arith}
 use Rattle.fingerprint_parameters.proofs.each_among_later.Goals as goal
-use Rattle.fingerprint_parameters.proofs.each_among_later.Goals.{After-has_id, In-Whole}
+use Rattle.fingerprint_parameters.proofs.each_among_later.Goals.{After-has_id, In-Some}
 
-next : (c : In-Whole) →
+next : (c : In-Some) →
     let args = c.args in
     let loop = c.loop-at in
-    Next args.body.now loop.at c.in-Whole.id c.in-Whole.used
+    Next args.body.now loop.at c.in-Some.parameter.id c.in-Some.parameter.used
 next c =
     let args = c.args in
     let start = c in
     let loop = c.loop-at in
     let test = c.loop-at-test in
     let call = c.one_parameter in
-    laws.next args.body.now loop.at test.true _ call.ensures (λ k. (start.type_inv.body k).fits) c.in-Whole.is
+    laws.next args.body.now loop.at test.true _ call.ensures (λ k. (start.type_inv.body k).fits) c.in-Some.is
 
 looked : (c : After-has_id) →
     let args = c.args in
     let loop = c.loop-at in
-    c.has_id.result ≡ member c.in-Whole.id (ids_in (drop (loop.at + c.in-Whole.used) args.body.now))
+    c.has_id.result ≡ member c.in-Some.parameter.id (ids_in (drop (loop.at + c.in-Some.parameter.used) args.body.now))
 looked c =
     let args = c.args in
     let loop = c.loop-at in
-    rw (part_to_end args.body.now (loop.at + c.in-Whole.used)) at c.has_id.ensures
+    rw (part_to_end args.body.now (loop.at + c.in-Some.parameter.used)) at c.has_id.ensures
 
 pub loop-at-init : goal.loop-at-init
 loop-at-init c =
@@ -47,37 +47,37 @@ returns-in_default c =
     absurd (cut-there args.body.now loop.at test.true _ call.ensures c.in_default.is loop.invariant.1)
 
 pub overflow_add-at : goal.overflow_add-at
-overflow_add-at c = omega (arith, (next c).within)
+overflow_add-at c = omega (arith, (next (goal.at.overflow_add-at c).In-Some).within)
 
 pub slice_bounds-has_id-count : goal.slice_bounds-has_id-count
-slice_bounds-has_id-count c = (next c).within
+slice_bounds-has_id-count c = (next (goal.at.slice_bounds-has_id-count c).In-Some).within
 
 pub slice_bounds-has_id-start : goal.slice_bounds-has_id-start
-slice_bounds-has_id-start c = omega (arith, (next c).within)
+slice_bounds-has_id-start c = omega (arith, (next (goal.at.slice_bounds-has_id-start c).In-Some).within)
 
 pub has_id-requires : goal.has_id-requires
 has_id-requires c =
     let args = c.args in
     let loop = c.loop-at in
-    rw (part_to_end args.body.now (loop.at + c.in-Whole.used)) ((next (goal.at.has_id-requires c).In-Whole).there loop.invariant.1)
+    rw (part_to_end args.body.now (loop.at + c.in-Some.parameter.used)) ((next (goal.at.has_id-requires c).In-Some).there loop.invariant.1)
 
 pub returns-then-has_id : goal.returns-then-has_id
 returns-then-has_id c =
     let loop = c.loop-at in
-    let at_entry_lem = (goal.at.returns-then-has_id c).In-Whole in
+    let at_entry_lem = (goal.at.returns-then-has_id c).In-Some in
     let at-look = (goal.at.returns-then-has_id c).After-has_id in
     sym (loop.invariant.2 ∙ rw ((next at_entry_lem).ids loop.invariant.1) (distinct-not _ _ (sym (looked at-look) ∙ c.if-has_id.true)))
 
 pub loop-at-smaller : goal.loop-at-smaller
 loop-at-smaller c =
     let test = c.loop-at-test in
-    let at_entry_lem = (goal.at.loop-at-smaller c).In-Whole in
+    let at_entry_lem = (goal.at.loop-at-smaller c).In-Some in
     omega (arith, test.true, (next at_entry_lem).some)
 
 pub loop-at-preserved : goal.loop-at-preserved
 loop-at-preserved c =
     let loop = c.loop-at in
-    let at_entry_lem = (goal.at.loop-at-preserved c).In-Whole in
+    let at_entry_lem = (goal.at.loop-at-preserved c).In-Some in
     let at-look = (goal.at.loop-at-preserved c).After-has_id in (
       (next at_entry_lem).within,
       (next at_entry_lem).there loop.invariant.1,

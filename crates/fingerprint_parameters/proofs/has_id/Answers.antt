@@ -7,19 +7,19 @@ use Rattle.fingerprint_parameters.proofs.ParameterLaws as laws
 use Rattle.fingerprint_parameters.proofs.ParameterLaws.{Next, cut-there, ids-end}
 use native.Mathlib.Omega.{arith}
 use Rattle.fingerprint_parameters.proofs.has_id.Goals as goal
-use Rattle.fingerprint_parameters.proofs.has_id.Goals.{In-Whole}
+use Rattle.fingerprint_parameters.proofs.has_id.Goals.{In-Some}
 
-next : (c : In-Whole) →
+next : (c : In-Some) →
     let args = c.args in
     let loop = c.loop-at in
-    Next args.list.now loop.at c.in-Whole.i c.in-Whole.used
+    Next args.list.now loop.at c.in-Some.parameter.id c.in-Some.parameter.used
 next c =
     let args = c.args in
     let start = c in
     let loop = c.loop-at in
     let test = c.loop-at-test in
     let call = c.one_parameter in
-    laws.next args.list.now loop.at test.true _ call.ensures (λ k. (start.type_inv.list k).fits) c.in-Whole.is
+    laws.next args.list.now loop.at test.true _ call.ensures (λ k. (start.type_inv.list k).fits) c.in-Some.is
 
 pub loop-at-init : goal.loop-at-init
 loop-at-init c =
@@ -34,28 +34,28 @@ returns-in_default c =
     let call = c.one_parameter in
     absurd (cut-there args.list.now loop.at test.true _ call.ensures c.in_default.is loop.invariant.1)
 
-pub returns-then-id-i : goal.returns-then-id-i
-returns-then-id-i c =
+pub returns-then-id-parameter : goal.returns-then-id-parameter
+returns-then-id-parameter c =
     let args = c.args in
     let loop = c.loop-at in
-    sym (loop.invariant.2 ∙ rw ((next (goal.at.returns-then-id-i c).In-Whole).ids loop.invariant.1) (member-first args.id _ _ c.if-id-i.true))
+    sym (loop.invariant.2 ∙ rw ((next (goal.at.returns-then-id-parameter c).In-Some).ids loop.invariant.1) (member-first args.id _ _ c.if-id-parameter.true))
 
 pub overflow_add-at : goal.overflow_add-at
-overflow_add-at c = omega (arith, (next (goal.at.overflow_add-at c).In-Whole).within)
+overflow_add-at c = omega (arith, (next (goal.at.overflow_add-at c).In-Some).within)
 
 pub loop-at-smaller : goal.loop-at-smaller
 loop-at-smaller c =
     let test = c.loop-at-test in
-    omega (arith, test.true, (next (goal.at.loop-at-smaller c).In-Whole).some)
+    omega (arith, test.true, (next (goal.at.loop-at-smaller c).In-Some).some)
 
 pub loop-at-preserved : goal.loop-at-preserved
 loop-at-preserved c =
     let args = c.args in
     let loop = c.loop-at in
-    let n = next (goal.at.loop-at-preserved c).In-Whole in (
+    let n = next (goal.at.loop-at-preserved c).In-Some in (
       n.within,
       n.there loop.invariant.1,
-      loop.invariant.2 ∙ rw (n.ids loop.invariant.1) (member-later args.id _ _ c.if-id-i.false),
+      loop.invariant.2 ∙ rw (n.ids loop.invariant.1) (member-later args.id _ _ c.if-id-parameter.false),
     )
 
 pub returns : goal.returns

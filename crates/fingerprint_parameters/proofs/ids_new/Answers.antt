@@ -1,14 +1,10 @@
-use mathlib.Core.Path.{sym}
+-- The ids of the body stand at the front of the array, so what these say the body's say. Assumes nothing.
+use Prim.Native.Nat.{ℕ, ◌≤◌}
+use lib.ListN.{length, replicate, length-replicate}
+use Rattle.fingerprint_parameters.proofs.AskedLaws.{kept-all}
 use Rattle.fingerprint_parameters.proofs.ids_new.Goals as goal
 
-pub returns-in-Rising : goal.returns-in-Rising
-returns-in-Rising c = sym (rw c.in-Rising.is at c.ids_in_order.ensures)
-
-pub returns-in-Twice : goal.returns-in-Twice
-returns-in-Twice c = sym (rw c.in-Twice.is at c.ids_in_order.ensures)
-
-pub returns-in-Rising-ids_in_order : goal.returns-in-Rising-ids_in_order
-returns-in-Rising-ids_in_order c = sym (rw c.in-Rising-ids_in_order.is at c.ids_in_order-in-Unsorted.ensures)
-
-pub returns-in-Twice-ids_in_order : goal.returns-in-Twice-ids_in_order
-returns-in-Twice-ids_in_order c = sym (rw c.in-Twice-ids_in_order.is at c.ids_in_order-in-Unsorted.ensures)
+pub returns-then-n-le8192 : goal.returns-then-n-le8192
+returns-then-n-le8192 c =
+    let room : c.in-Some.n ≤ length {A = ℕ} (replicate 8192 0) = rw (length-replicate {A = ℕ} 8192 0) c.if-n-le8192.true in
+    rw (kept-all c.args.body.now _ _ _ (rw c.in-Some.is at c.read_ids.ensures) room) at c.all_new.ensures

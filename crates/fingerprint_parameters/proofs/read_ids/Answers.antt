@@ -7,28 +7,28 @@ use Rattle.fingerprint_parameters.proofs.ParameterLaws.{Next, ids-cut}
 use Rattle.fingerprint_parameters.proofs.ReadingLaws.{reading-start, reading-next, reading-cut, reading-end}
 use native.Mathlib.Omega.{arith}
 use Rattle.fingerprint_parameters.proofs.read_ids.Goals as goal
-use Rattle.fingerprint_parameters.proofs.read_ids.Goals.{In-Whole, Joined-k-room, then-k-room, else-k-room}
+use Rattle.fingerprint_parameters.proofs.read_ids.Goals.{In_ok-parameter, Joined-k-room, then-k-room, else-k-room}
 
-next : (c : In-Whole) →
+next : (c : In_ok-parameter) →
     let args = c.args in
     let loop = c.loop-at in
-    Next args.body.now loop.at c.in-Whole.id c.in-Whole.used
+    Next args.body.now loop.at c.in_ok-parameter.parameter.id c.in_ok-parameter.parameter.used
 next c =
     let args = c.args in
     let start = c in
     let loop = c.loop-at in
     let test = c.loop-at-test in
     let call = c.one_parameter in
-    laws.next args.body.now loop.at test.true _ call.ensures (λ k. (start.type_inv.body k).fits) c.in-Whole.is
+    laws.next args.body.now loop.at test.true _ call.ensures (λ k. (start.type_inv.body k).fits) c.in_ok-parameter.was
 
 stored : (c : Joined-k-room) →
     let loop = c.loop-at in
-    c.if-k-room.ids ≡ set loop.ids loop.k c.in-Whole.id
+    c.if-k-room.ids ≡ set loop.ids loop.k c.in_ok-parameter.parameter.id
 stored c =
     let loop = c.loop-at in
     elim c.if-k-room.branch [
       | then-k-room w ↦ w.ids-is
-      | else-k-room w ↦ w.ids-is ∙ sym (set_out loop.ids loop.k c.in-Whole.id (omega (arith, w.if-k-room.false, loop.invariant.size)))
+      | else-k-room w ↦ w.ids-is ∙ sym (set_out loop.ids loop.k c.in_ok-parameter.parameter.id (omega (arith, w.if-k-room.false, loop.invariant.size)))
     ]
 
 pub loop-at-init : goal.loop-at-init
@@ -36,16 +36,16 @@ loop-at-init c =
     let args = c.args in
     reading-start args.body.now args.ids.now
 
-pub returns-in_default : goal.returns-in_default
-returns-in_default c =
+pub returns-in_err-parameter : goal.returns-in_err-parameter
+returns-in_err-parameter c =
     let args = c.args in
     let loop = c.loop-at in
     let test = c.loop-at-test in
-    let cut = ids-cut args.body.now loop.at test.true _ c.one_parameter.ensures c.in_default.is in
-    reading-cut args.body.now args.ids.now loop.ids loop.at loop.k loop.invariant cut
+    let cut = ids-cut args.body.now loop.at test.true _ c.one_parameter.ensures c.in_err-parameter.was in
+    rw c.from_residual.ensures (reading-cut args.body.now args.ids.now loop.ids loop.at loop.k loop.invariant cut)
 
 pub overflow_add-at : goal.overflow_add-at
-overflow_add-at c = omega (arith, (next (goal.at.overflow_add-at c).In-Whole).within)
+overflow_add-at c = omega (arith, (next (goal.at.overflow_add-at c).In_ok-parameter).within)
 
 pub overflow_add-k : goal.overflow_add-k
 overflow_add-k c =
@@ -56,13 +56,13 @@ overflow_add-k c =
 pub loop-at-smaller : goal.loop-at-smaller
 loop-at-smaller c =
     let test = c.loop-at-test in
-    omega (arith, test.true, (next (goal.at.loop-at-smaller c).In-Whole).some)
+    omega (arith, test.true, (next (goal.at.loop-at-smaller c).In_ok-parameter).some)
 
 pub loop-at-preserved : goal.loop-at-preserved
 loop-at-preserved c =
     let args = c.args in
     let loop = c.loop-at in
-    rw (stored c) (reading-next args.body.now args.ids.now loop.ids loop.at loop.k loop.invariant _ _ (next (goal.at.loop-at-preserved c).In-Whole))
+    rw (stored (goal.at.loop-at-preserved c).Joined-k-room) (reading-next args.body.now args.ids.now loop.ids loop.at loop.k loop.invariant _ _ (next (goal.at.loop-at-preserved c).In_ok-parameter))
 
 pub returns : goal.returns
 returns c =

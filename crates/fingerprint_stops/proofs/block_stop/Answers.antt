@@ -1,27 +1,21 @@
 -- `block_stop` keeps the state `Stopping` from one extension to the next. Assumes nothing.
 use Prim.Native.Nat.{◌<◌}
-use mathlib.Core.Path.{subst}
+use Rattle.std.specs.Prelude.{Ok, Err}
+use Rattle.wire.specs.Refusals.{question}
 use native.Mathlib.Omega.{arith}
-use lib.ListN.{take, length-replicate}
-use mathlib.Core.Bool.{true}
+use lib.ListN.{take}
 use Rattle.fingerprint.specs.Code.{StepAs}
-use Rattle.fingerprint.specs.declared.walk.Step.{Step}
-use Rattle.fingerprint.specs.declared.walk.Step.TheVariants as step
 use Rattle.fingerprint_stops.proofs.WalkLaws.{all-marked, stopping-start, stopping-end, stopping-stop, stopping-next, has_room}
 use Rattle.fingerprint_stops.proofs.block_stop.Goals as goal
-use Rattle.fingerprint_stops.proofs.block_stop.Goals.{In-Next}
+use Rattle.fingerprint_stops.proofs.block_stop.Goals.{In-Ok}
 
-found : (c : In-Next) →
+found : (c : In-Ok) →
     let h = c.args.hello.now in
     let l = c.loop-at in
-    StepAs (step.Next c.in-Next.t c.in-Next.field-1 c.in-Next.field-2 c.in-Next.end c.in-Next.field-4) h l.at (take l.count l.types) l.ids c.extension.new.ids
-found c =
-    let h = c.args.hello.now in
-    let l = c.loop-at in
-    let called = c.extension in
-    subst (λ (x : Step). StepAs x h l.at (take l.count l.types) l.ids called.new.ids) c.in-Next.is called.ensures
+    StepAs (Ok c.in-Ok.step) h l.at (take l.count l.types) l.ids c.extension.new.ids
+found c = rw c.in-Ok.is at c.extension.ensures
 
-room : (c : In-Next) → c.loop-at.count < 64
+room : (c : In-Ok) → c.loop-at.count < 64
 room c = has_room c.loop-at.invariant (found c).0.room
 
 pub loop-at-init : goal.loop-at-init
@@ -32,7 +26,13 @@ extension-requires c =
     let loop = c.loop-at in
     let w = loop.invariant in
     let pre = c.requires in
-    (w.inside, pre.1, w.few, w.types_long, length-replicate 64 true, all-marked (take loop.count loop.types), w.ids-long)
+    (w.inside, pre.1)
+
+pub invariant_of-known : goal.invariant_of-known
+invariant_of-known c =
+    let loop = c.loop-at in
+    let w = loop.invariant in
+    record { few = w.few; long = w.types_long; marked = all-marked (take loop.count loop.types) }
 
 pub offset_bounds-types-count : goal.offset_bounds-types-count
 offset_bounds-types-count c = omega (arith, room c)
@@ -58,7 +58,7 @@ loop-at-preserved c =
 pub place_in-requires : goal.place_in-requires
 place_in-requires c =
     let w = c.loop-at.invariant in
-    (w.inside, c.requires.1, w.few, w.types_long)
+    (w.inside, c.requires.1)
 
 pub overflow_add-result : goal.overflow_add-result
 overflow_add-result c =
@@ -66,16 +66,13 @@ overflow_add-result c =
     let pre = c.requires in
     omega (arith, c.place_in.ensures.1, w.inside, pre.1)
 
-pub returns-in-Refused : goal.returns-in-Refused
-returns-in-Refused c =
+pub returns-in-Err : goal.returns-in-Err
+returns-in-Err c =
     let h = c.args.hello.now in
     let l = c.loop-at in
-    let n = c.in-Refused.number in
-    let called = c.extension in
-    let s : StepAs (step.Refused n) h l.at (take l.count l.types) l.ids called.new.ids =
-    subst (λ (x : Step). StepAs x h l.at (take l.count l.types) l.ids called.new.ids) c.in-Refused.is called.ensures in
-    let test = c.loop-at-test in
-    stopping-stop l.invariant test.true n c.place_in.result s.0 c.place_in.ensures.0
+    let e = c.in-Err.refusal in
+    let s : StepAs (Err e) h l.at (take l.count l.types) l.ids c.extension.new.ids = rw c.in-Err.is at c.extension.ensures in
+    stopping-stop l.invariant c.loop-at-test.true (question e) c.place_in.result s c.place_in.ensures.0
 
 pub returns : goal.returns
 returns c = stopping-end c.loop-at.invariant c.loop-at-test.false

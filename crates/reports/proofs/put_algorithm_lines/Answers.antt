@@ -3,4 +3,4 @@ use Rattle.script_writing.proofs.AnswerLaws.{written_then}
 use Rattle.reports.proofs.put_algorithm_lines.Goals as goal
 
 pub returns : goal.returns
-returns c = written_then c.put_words-n.ensures c.put_words.ensures
+returns c = written_then c.put_list-n.ensures c.put_list.ensures

@@ -3,4 +3,4 @@ use Rattle.script_writing.proofs.AnswerLaws.{written_then}
 use Rattle.reports.proofs.put_parameter_lines.Goals as goal
 
 pub returns : goal.returns
-returns c = written_then c.put_sni-n.ensures c.put_ids.ensures
+returns c = written_then c.put_sni-n.ensures c.put_list.ensures

@@ -1,6 +1,6 @@
 -- `put_frame_listing` meets its contract: the verdict and the lines are written one after the other. Assumes nothing.
 use mathlib.Core.Path.{refl}
-use Rattle.show_marks.specs.Text.{stop_from}
+use Rattle.wire.specs.Stops.{stop_of}
 use Rattle.show_frames.proofs.TurnLaws.{listing-is}
 use Rattle.show_frames.proofs.put_frame_listing.Goals as goal
 
@@ -9,5 +9,5 @@ returns c =
     let args = c.args in
     let verdict = c.put_verdict-n in
     let lines = c.put_lines in
-    listing-is args.frames.now (stop_from args.number args.place) verdict.result lines.result _ args.out.now verdict.new.out
+    listing-is args.frames.now (stop_of args.stop) verdict.result lines.result _ args.out.now verdict.new.out
     lines.new.out verdict.auto.out verdict.ensures refl lines.ensures

@@ -3,7 +3,7 @@ use Prim.Native.Nat.{zero-le}
 use mathlib.Core.Path.{refl, ap, ◌∙◌}
 use native.Mathlib.Omega.{arith}
 use Rattle.wire.proofs.ListLaws.{part_to_end, length-part-to-end}
-use Rattle.show_marks.specs.Text.{stop_from}
+use Rattle.wire.specs.Stops.{stop_of}
 use Rattle.show_frames.specs.Frames.{line_size}
 use Rattle.show_frames.proofs.TurnLaws.{going-none, going_more, ended-whole, ended-short}
 use borrow.Author.Rules.{rules}
@@ -13,7 +13,7 @@ use Rattle.show_frames.proofs.put_lines.Goals.{else-loop-at-test, then-loop-at-t
 pub loop-at-init : goal.loop-at-init
 loop-at-init c =
     let args = c.args in
-    (zero-le, zero-le, refl, going-none args.frames.now (stop_from args.number args.place) args.out.now)
+    (zero-le, zero-le, refl, going-none args.frames.now (stop_of args.stop) args.out.now)
 
 pub line_size-size-requires : goal.line_size-size-requires
 line_size-size-requires c = omega (arith, length-part-to-end c.args.frames.now c.loop-at.at)
@@ -34,7 +34,7 @@ loop-at-preserved c =
       omega (arith, size.ensures.2, long),
       search rules,
       search rules,
-      going_more h (stop_from args.number args.place) l.at size.result l.used w.result _ args.out.now l.out w.new.out
+      going_more h (stop_of args.stop) l.at size.result l.used w.result _ args.out.now l.out w.new.out
           c.loop-at-test.true (size.ensures.0 ∙ ap line_size part) size.ensures.1 l.invariant.3 refl w.ensures,
     )
 
@@ -42,7 +42,7 @@ pub returns : goal.returns
 returns c =
     let args = c.args in
     let h = args.frames.now in
-    let stop = stop_from args.number args.place in
+    let stop = stop_of args.stop in
     let l = c.loop-at in
     let w = c.put_end in
     elim c.loop-at-test.branch [

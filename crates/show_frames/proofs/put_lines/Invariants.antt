@@ -2,13 +2,13 @@
 use Prim.Native.Nat.{◌-◌, ◌≤◌}
 use mathlib.Core.Path.{◌≡◌}
 use lib.ListN.{length}
-use Rattle.show_marks.specs.Text.{stop_from}
+use Rattle.wire.specs.Stops.{stop_of}
 use Rattle.show_frames.proofs.TurnLaws.{Going}
 use Rattle.show_frames.proofs.put_lines.Given as goal
 
 abbrev pub invariant-loop-at : goal.invariant-loop-at
 invariant-loop-at l =
-    (l.at ≤ length l.frames) × (l.used ≤ length l.out) × (length l.out ≡ length l.initial.out) × Going l.frames (stop_from l.number l.place) l.at l.used l.initial.out l.out
+    (l.at ≤ length l.frames) × (l.used ≤ length l.out) × (length l.out ≡ length l.initial.out) × Going l.frames (stop_of l.stop) l.at l.used l.initial.out l.out
 
 abbrev pub decreases-loop-at : goal.decreases-loop-at
 decreases-loop-at l = length l.frames - l.at

@@ -1,7 +1,7 @@
 -- `show_hello::put_lines` meets its contract: the lines so far stand in the output, and the others begin at the cursor. Assumes nothing.
 use Prim.Native.Nat.{zero-le}
 use mathlib.Core.Path.{refl}
-use Rattle.show_marks.specs.Text.{stop_from}
+use Rattle.wire.specs.Stops.{stop_of}
 use Rattle.show_hello.proofs.TurnLaws.{going-none, going_more, going-ended}
 use native.Mathlib.Omega.{arith}
 use borrow.Author.Rules.{rules}
@@ -11,7 +11,7 @@ pub loop-c-init : goal.loop-c-init
 loop-c-init c =
     let args = c.args in
     let first = c.start-c.ensures in
-    let stop = stop_from args.number args.place in
+    let stop = stop_of args.stop in
     (first.1, zero-le, refl, going-none args.hello.now stop c.start-c.result args.out.now first.0)
 
 pub line_at-line-requires : goal.line_at-line-requires
@@ -35,7 +35,7 @@ loop-c-preserved c =
       after.ensures.1,
       search rules,
       search rules,
-      going_more args.hello.now (stop_from args.number args.place) l.c after.result line.result l.used w.result _
+      going_more args.hello.now (stop_of args.stop) l.c after.result line.result l.used w.result _
           args.out.now l.out w.new.out c.loop-c-test.true line.ensures.0 after.ensures.0 after.ensures.2 l.invariant.3 refl
           w.ensures,
     )
@@ -44,4 +44,4 @@ pub returns : goal.returns
 returns c =
     let args = c.args in
     let l = c.loop-c in
-    going-ended args.hello.now (stop_from args.number args.place) l.c l.used args.out.now l.out c.loop-c-test.false l.invariant.3
+    going-ended args.hello.now (stop_of args.stop) l.c l.used args.out.now l.out c.loop-c-test.false l.invariant.3

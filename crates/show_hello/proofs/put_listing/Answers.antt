@@ -5,7 +5,8 @@ use mathlib.Core.List.{List, ◌++◌, append_assoc}
 use Rattle.wire.specs.Numbers.{Bytes}
 use Rattle.script_writing.proofs.AnswerLaws.{written-more}
 use Rattle.script_writing.proofs.AnswerLaws.{all-as}
-use Rattle.show_marks.specs.Text.{verdict_parts, stop_from}
+use Rattle.wire.specs.Stops.{stop_of}
+use Rattle.show_marks.specs.Text.{verdict_parts}
 use Rattle.show_hello.proofs.WholeLaws.{lines-all}
 use Rattle.show_hello.proofs.put_listing.Goals as goal
 
@@ -14,12 +15,12 @@ returns c =
     let args = c.args in
     let h = args.hello.now in
     let bytes : Bytes h = λ i. (c.type_inv.hello i).fits in
-    let stop = stop_from args.number args.place in
+    let stop = stop_of args.stop in
     let verdict : List (List ℕ) = verdict_parts 4 stop in
     let lines = c.put_lines.ensures in
     let last = c.put_end.ensures in
     let first = c.put_verdict-n.ensures in
-    let read = c.least-listed in
+    let read = c.min-listed in
     let two = written-more _ _ _ _ _ _ _ _ first refl lines.is in
     record {
       lines = lines.parts ++ last.parts;

@@ -3,7 +3,7 @@ use Rattle.show_lines.proofs.PartLaws.{part-within}
 use native.Mathlib.Omega.{arith}
 use Rattle.show_hello.proofs.put_row.Goals as goal
 
-pub slice_bounds-told-end : goal.slice_bounds-told-end
-slice_bounds-told-end c =
+pub slice_bounds-shown-end : goal.slice_bounds-shown-end
+slice_bounds-shown-end c =
     let pre = c.requires in
     omega (arith, pre.1.within, part-within _ _ pre.0)

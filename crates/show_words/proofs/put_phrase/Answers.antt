@@ -4,8 +4,8 @@ use Rattle.show_words.proofs.WroteLaws.{wrote_none, wrote-more}
 use borrow.Author.Rules.{rules}
 use Rattle.show_words.proofs.put_phrase.Goals as goal
 
-pub loop-i-init : goal.loop-i-init
-loop-i-init c = (search rules, refl, wrote_none c.args.out.now)
+pub loop-piece-init : goal.loop-piece-init
+loop-piece-init c = (search rules, refl, wrote_none c.args.out.now)
 
-pub loop-i-preserved : goal.loop-i-preserved
-loop-i-preserved c = (search rules, search rules, wrote-more c.loop-i.invariant.2 refl c.put_piece-used.ensures)
+pub loop-piece-preserved : goal.loop-piece-preserved
+loop-piece-preserved c = (search rules, search rules, wrote-more c.loop-piece.invariant.2 refl c.put_piece-used.ensures)

@@ -1,8 +1,8 @@
--- The sum of `grease_byte` is that of its definition. Assumes nothing.
-use mathlib.Core.Path.{refl}
+-- A byte's high half is below 16. Assumes nothing.
+use native.Mathlib.Omega.{arith}
 use Rattle.tape.specs.Tape.{grease_byte}
 use Rattle.tape.proofs.grease_byte.Goals as goal
 
 pub returns : goal.returns
 unfolding grease_byte
-returns c = refl
+returns c = omega arith

@@ -1,25 +1,32 @@
 -- The loop keeps: the swaps for the places below i, on what stands, are the whole shuffle. Assumes nothing.
+use Prim.Native.Nat.{◌-◌}
 use mathlib.Core.Path.{refl, sym, ◌∙◌}
 use native.Mathlib.Omega.{arith}
 use Rattle.tape.specs.Tape.{shuffle}
-use Rattle.tape.proofs.ShuffleLaws.{shuffle-turn, shuffle-ends}
+use Rattle.tape.proofs.ShuffleLaws.{swap-is, shuffle-turn, shuffle-ends}
 use Rattle.tape.proofs.shuffle.Goals as goal
 
 pub loop-i-init : goal.loop-i-init
 unfolding shuffle
-loop-i-init c = (omega arith, refl, refl, refl)
+loop-i-init g c = (refl, λ d. refl)
+
+pub place_up_to-requires : goal.place_up_to-requires
+place_up_to-requires g c = omega (arith, c.loop-i.invariant.0)
+
+pub overflow_add-next : goal.overflow_add-next
+overflow_add-next g c = omega (arith, c.loop-i.invariant.0)
 
 pub loop-i-preserved : goal.loop-i-preserved
-loop-i-preserved c =
-    let draw = c in
-    let turn = draw in
-    let args = turn.args in
-    let l = turn.loop-i in
-    let kept = sym (shuffle-turn 0 l.v args.tape.now l.t l.i draw.loop-i-test.true) ∙ l.invariant.3 in
-    (omega arith, omega arith, omega arith, rw (c.swap.ensures, draw.place_up_to-j.ensures.0) kept)
+loop-i-preserved g c =
+    let l = c.loop-i in
+    let j = c.place_up_to.ensures in (
+      omega arith,
+      λ d.
+          rw (c.swap.ensures.after, swap-is d l.v (l.i - 1) c.place_up_to.result (omega arith) (omega (arith, j.1)), j.0)
+          (sym (shuffle-turn d l.v c.args.tape.now l.next l.i c.loop-i-test.true) ∙ l.invariant.1 d),
+    )
 
 pub returns : goal.returns
-returns c =
+returns g c =
     let l = c.loop-i in
-    let args = c.args in
-    (omega arith, sym (shuffle-ends 0 l.v args.tape.now l.t l.i (omega arith)) ∙ l.invariant.3)
+    (omega arith, λ d. sym (shuffle-ends d l.v c.args.tape.now l.next l.i (omega arith)) ∙ l.invariant.1 d)

@@ -1,21 +1,25 @@
 -- Each branch gives the number of the definition. Assumes nothing.
-use mathlib.Core.Path.{sym, ◌∙◌}
-use Rattle.profiles.specs.Sizes.{key_share_size}
+use mathlib.Core.Path.{◌≡◌}
+use mathlib.Core.Logic.{◌≢◌}
 use native.Mathlib.Omega.{arith}
+use Rattle.profiles.specs.Sizes.{key_share_size}
 use Rattle.tls_extensions.proofs.key_share_size.Goals as goal
 
-pub returns-then-is : goal.returns-then-is
+pub returns-in-SECP256R1 : goal.returns-in-SECP256R1
 unfolding key_share_size
-returns-then-is c = (rw (sym c.is.ensures ∙ c.if-is.true), omega arith)
+returns-in-SECP256R1 c =
+    let e : c.args.group.0 ≡ 23 = omega arith in
+    (rw e, omega arith)
 
-pub returns-then-is-2 : goal.returns-then-is-2
+pub returns-in-PQ_HYBRID_GROUP : goal.returns-in-PQ_HYBRID_GROUP
 unfolding key_share_size
-returns-then-is-2 c =
-    let first = c in
-    (rw (sym first.is.ensures ∙ first.if-is.false, sym c.is-2.ensures ∙ c.if-is-2.true), omega arith)
+returns-in-PQ_HYBRID_GROUP c =
+    let e : c.args.group.0 ≡ 4588 = omega arith in
+    (rw e, omega arith)
 
-pub returns : goal.returns
+pub returns-in_default : goal.returns-in_default
 unfolding key_share_size
-returns c =
-    let first = c in
-    (rw (sym first.is.ensures ∙ first.if-is.false, sym c.is-2.ensures ∙ c.if-is-2.false), omega arith)
+returns-in_default c =
+    let a : c.args.group.0 ≢ 23 = omega arith in
+    let b : c.args.group.0 ≢ 4588 = omega arith in
+    (grind (arith, a, b), omega arith)

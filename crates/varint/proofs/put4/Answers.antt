@@ -1,16 +1,15 @@
--- `put4` writes four low bytes: its four stores are one write over the front. Assumes nothing.
+-- `put4` writes the four low bytes over the front. Assumes nothing.
 use native.Mathlib.Omega.{arith}
-use lib.ListN.{length-set}
+use Prim.Native.Nat.{◌/◌}
+use mathlib.Core.Path.{◌≡◌}
 use Rattle.wire.specs.Numbers.{digits}
-use Rattle.wire.proofs.FrontLaws.{stores}
+use Rattle.wire.specs.Front.{front}
 use Rattle.varint.proofs.put4.Goals as goal
 
-pub bounds-out-1 : goal.bounds-out-1
-bounds-out-1 c = simp length-set (omega arith)
-
-pub bounds-out-2 : goal.bounds-out-2
-bounds-out-2 c = simp length-set (omega arith)
-
 pub returns : goal.returns
-unfolding digits
-returns c = stores (digits 256 4 c.args.n) _ c.requires
+unfolding digits front
+returns c =
+    let n = c.args.n in
+    let second : n / 65536 ≡ n / 256 / 256 = omega arith in
+    let first : n / 16777216 ≡ n / 256 / 256 / 256 = omega arith in
+    rw (c.copy_from_slice.ensures.after, c.to_be_bytes.ensures, first, second)

@@ -1,13 +1,13 @@
 -- `size` meets its promise by the class that it finds. Assumes nothing.
-use Rattle.varint.proofs.Promises.{sized-large, sized}
+use lib.Dec.{lit≤}
+use Rattle.varint.proofs.Promises.{sized-large, sized, place-small}
+use Rattle.varint.specs.Code.{place}
 use Rattle.varint.proofs.size.Goals as goal
 
-pub returns-then-class-lt4 : goal.returns-then-class-lt4
-returns-then-class-lt4 c =
-    let args = c.args in
-    let class_of = c.class_of-class in
-    let if1 = c.if-class-lt4 in
-    rw c.width_of.ensures (sized args.value class_of.result class_of.ensures if1.true)
+pub returns-in_default : goal.returns-in_default
+returns-in_default c = sized-large c.args.value 4 (rw c.in_default.is at c.class_of.ensures) (lit≤ tt)
 
-pub returns-else-class-lt4 : goal.returns-else-class-lt4
-returns-else-class-lt4 c = sized-large c.args.value c.class_of-class.result c.class_of-class.ensures c.if-class-lt4.false
+pub returns : goal.returns
+returns c =
+    let class = c.in-Some.class in
+    rw c.width_of.ensures (sized c.args.value (place class) (rw c.in-Some.is at c.class_of.ensures) (place-small class))

@@ -1,17 +1,14 @@
 -- `size` refuses no number below 2^62. Assumes nothing.
-use Rattle.varint.proofs.RoomLaws.{sized, never-unsized}
+use mathlib.Core.Path.{sym, ◌∙◌}
+use Rattle.wire.proofs.AnswerLaws.{same-ok}
+use Rattle.varint.proofs.TableLaws.{width-most, class-small}
+use Rattle.varint.proofs.RoomLaws.{sized}
 use Rattle.varint.proofs.varint_length.Goals as goal
 
-pub returns-in-Bytes : goal.returns-in-Bytes
-returns-in-Bytes c =
-    let args = c.args in
-    let pre = c.requires in
-    let size = c.size in
-    sized args.value (pre) c.in-Bytes.n (rw c.in-Bytes.is at size.ensures)
+pub unwrap-requires : goal.unwrap-requires
+unwrap-requires c = rw (sized c.args.value c.requires c.size.result c.size.ensures)
 
-pub returns-in-Refused : goal.returns-in-Refused
-returns-in-Refused c =
-    let args = c.args in
-    let pre = c.requires in
-    let size = c.size in
-    absurd (never-unsized args.value (pre) _ (rw c.in-Refused.is at size.ensures))
+pub returns : goal.returns
+returns c =
+    let e = same-ok (sym c.unwrap.ensures ∙ sized c.args.value c.requires c.size.result c.size.ensures) in
+    (e, rw e (width-most _ (class-small c.args.value c.requires)))

@@ -1,38 +1,31 @@
 -- `write` meets its promise: both refusals before the first store, then the form of the class. Assumes nothing.
+use lib.Dec.{lit≤}
+use Prim.Native.Nat.{◌<◌}
+use mathlib.Core.Path.{◌≡◌}
+use Rattle.varint.specs.Code.{place}
+use Rattle.varint.specs.Varint as varint
 use Rattle.varint.proofs.TableLaws.{class-holds}
-use Rattle.varint.proofs.Promises.{written-large, written-short, written}
+use Rattle.varint.proofs.Promises.{written-large, written-short, written, place-small}
 use Rattle.varint.proofs.write.Goals as goal
 
-pub returns-then-class-ge4 : goal.returns-then-class-ge4
-returns-then-class-ge4 c =
-    let args = c.args in
-    let class_of = c.class_of-class in
-    written-large args.value args.out.now class_of.result class_of.ensures c.if-class-ge4.true
+pub returns-in_default : goal.returns-in_default
+returns-in_default c = written-large c.args.value c.args.out.now 4 (rw c.in_default.is at c.class_of.ensures) (lit≤ tt)
 
 pub returns-then-out-width : goal.returns-then-out-width
 returns-then-out-width c =
-    let args = c.args in
-    let class_of = c.class_of-class in
-    let if1 = c.if-class-ge4 in
-    let width_of = c.width_of-width in
-    written-short args.value args.out.now class_of.result class_of.ensures if1.false (rw width_of.ensures at c.if-out-width.true)
+    let class = c.in-Some.class in
+    written-short c.args.value c.args.out.now (place class) (rw c.in-Some.is at c.class_of.ensures) (place-small class) (rw c.width_of-width.ensures at c.if-out-width.true)
 
 pub put_form-requires : goal.put_form-requires
 put_form-requires c =
-    let class_of = c.class_of-class in
-    let if1 = c.if-class-ge4 in
-    let width_of = c.width_of-width in
-    let if2 = c.if-out-width in
-    let args = c.args in
-    let e = class_of.ensures in
-    (if1.false, rw width_of.ensures at if2.false, rw e (class-holds args.value (rw e at if1.false)))
+    let class = c.in-Some.class in
+    let e : place class ≡ varint.class c.args.value = rw c.in-Some.is at c.class_of.ensures in
+    let known : varint.class c.args.value < 4 = rw e at (place-small class) in
+    (rw c.width_of-width.ensures at c.if-out-width.false, rw e (class-holds c.args.value known))
 
 pub returns : goal.returns
 returns c =
-    let width_of = c.width_of-width in
-    let args = c.args in
-    let class_of = c.class_of-class in
-    let if1 = c.if-class-ge4 in
-    let put-form = c.put_form in
-    let if2 = c.if-out-width in
-    rw width_of.ensures (written args.value args.out.now class_of.result class_of.ensures if1.false put-form.new.out (rw width_of.ensures at if2.false) put-form.ensures)
+    let class = c.in-Some.class in
+    let e = rw c.in-Some.is at c.class_of.ensures in
+    rw c.width_of-width.ensures
+    (written c.args.value c.args.out.now (place class) e (place-small class) c.put_form.new.out (rw c.width_of-width.ensures at c.if-out-width.false) c.put_form.ensures)

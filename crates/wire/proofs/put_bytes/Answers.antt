@@ -1,21 +1,8 @@
--- `put_bytes` copies: after i turns the first i elements stand at the front. Assumes nothing.
-use mathlib.Core.Path.{◌≡◌, refl, ◌∙◌}
-use native.Mathlib.Omega.{arith}
-use lib.ListN.{length, length-set}
-use lib.Seq.{take-length}
-use Rattle.wire.proofs.FrontLaws.{front-none, front-more}
+-- `put_bytes` copies. Assumes nothing.
+use mathlib.Core.Path.{refl}
+use Rattle.wire.specs.Front.{front}
 use Rattle.wire.proofs.put_bytes.Goals as goal
 
-pub loop-i-init : goal.loop-i-init
-loop-i-init c = (omega arith, front-none _, refl)
-
-pub loop-i-preserved : goal.loop-i-preserved
-loop-i-preserved c =
-    let l = c.loop-i in
-    let a = c.args in
-    (omega arith, rw l.invariant.1 (front-more l.i a.src.now a.out.now (omega arith) (omega arith)), simp length-set l.invariant.2)
-
 pub returns : goal.returns
-returns c =
-    let e : c.loop-i.i ≡ length c.args.src.now = omega arith in
-    record { count = refl; output = c.loop-i.invariant.1 ∙ rw (e, take-length) }
+unfolding front
+returns c = record { count = refl; output = rw c.copy_from_slice.ensures.after }

@@ -8,50 +8,32 @@ use Rattle.wire.specs.Numbers.{digits}
 use Rattle.wire.specs.Vectors.{words}
 use Rattle.wire.proofs.NumberLaws.{length_digits}
 use Rattle.wire.proofs.VectorLaws.{length-words, words-from}
-use Rattle.wire.proofs.Writing.{Writing, begins, rest-is, filled, same_length as kept, place-within, next-room, writes, finished}
+use Rattle.wire.proofs.Writing.{Writing, begins, rest-is, filled, writes, finished}
 use native.Mathlib.Omega.{arith}
 use Rattle.wire.proofs.put_words.Goals as goal
-use Rattle.wire.proofs.put_words.Goals.{In-loop-i}
+use Rattle.wire.proofs.put_words.Goals.{In-loop-v}
 
 -- the number at place i is next
 here :
-    (c : In-loop-i) →
+    (c : In-loop-v) →
     let values = c.args.values.now in
-    let loop = c.loop-i in
-    Writing (words values) (digits 256 2 (get_or values loop.i 0) ++ words (drop (loop.i + 1) values)) c.args.out.now loop.out loop.at
-here c = rest-is c.loop-i.invariant.2 (words-from _ c.loop-i.i c.loop-i-test.true)
+    let loop = c.loop-v in
+    Writing (words values) (digits 256 2 (get_or values loop.v-index 0) ++ words (drop (loop.v-index + 1) values)) c.args.out.now loop.out loop.at
+here c = rest-is c.loop-v.invariant.1 (words-from _ c.loop-v.v-index c.loop-v-test.true)
 
-pub loop-i-init : goal.loop-i-init
-loop-i-init c =
+pub loop-v-init : goal.loop-v-init
+loop-v-init c =
     let values = c.args.values.now in
-    (omega arith, omega arith, begins (words values) c.args.out.now (rw (length-words values) c.requires))
+    (omega arith, begins (words values) c.args.out.now (rw (length-words values) c.requires))
 
-pub slice_bounds-w16-count : goal.slice_bounds-w16-count
-slice_bounds-w16-count c = place-within c.loop-i.invariant.2
-
-pub slice_bounds-w16-start : goal.slice_bounds-w16-start
-slice_bounds-w16-start c = place-within c.loop-i.invariant.2
-
-pub w16-requires : goal.w16-requires
-w16-requires c =
-    let loop = c.loop-i in
-    let values = c.args.values.now in
-    next-room (digits 256 2 (get_or values loop.i 0)) (words (drop (loop.i + 1) values)) (here (goal.at.w16-requires c).In-loop-i) (length_digits 256 2 (get_or values loop.i 0))
-
-pub overflow_add-at : goal.overflow_add-at
-overflow_add-at c = omega (arith, c.loop-i.invariant.1)
-
-pub loop-i-preserved : goal.loop-i-preserved
-loop-i-preserved c =
+pub loop-v-preserved : goal.loop-v-preserved
+loop-v-preserved c =
     let w16 = c.w16 in
-    (omega arith, omega (arith, c.loop-i.invariant.1), writes _ _ (here (goal.at.loop-i-preserved c).In-loop-i) (filled (length_digits 256 2 _) w16.ensures))
-
-pub shape_of-out : goal.shape_of-out
-shape_of-out c = kept c.loop-i.invariant.2
+    (omega (arith, c.loop-v.invariant.0), writes _ _ (here (goal.at.loop-v-preserved c).In-loop-v) (filled (length_digits 256 2 _) w16.ensures))
 
 pub returns : goal.returns
 unfolding words
 returns c =
     let values = c.args.values.now in
-    let all : c.loop-i.i ≡ length values = omega arith in
-    finished (rest-is c.loop-i.invariant.2 (rw (all, drop-length values) refl))
+    let all : c.loop-v.v-index ≡ length values = omega arith in
+    finished (rest-is c.loop-v.invariant.1 (rw (all, drop-length values) refl))

@@ -1,8 +1,8 @@
--- `w16` writes the two low bytes: its two stores are one write over the front. Assumes nothing.
+-- `w16` writes the two bytes over the front. Assumes nothing.
 use Rattle.wire.specs.Numbers.{digits}
-use Rattle.wire.proofs.FrontLaws.{stores}
+use Rattle.wire.specs.Front.{front}
 use Rattle.wire.proofs.w16.Goals as goal
 
 pub returns : goal.returns
-unfolding digits
-returns c = stores (digits 256 2 c.args.v) _ c.requires
+unfolding digits front
+returns c = rw (c.copy_from_slice.ensures.after, c.to_be_bytes.ensures)

@@ -1,39 +1,68 @@
 -- `alike::lists::same_lists` meets its contract: one list after the other, in the order of the contract. Assumes nothing.
+use mathlib.Core.Path.{◌≡◌, refl, ◌∙◌}
+use mathlib.Core.Bool.{Bool, ◌&&◌}
+use lib.Dec.{eqb}
+use lib.ListN.{take}
+use Rattle.fingerprint.specs.InRange.{group_number, group_numbers}
+use Rattle.alike.specs.Alike.{same_numbers}
 use Rattle.alike.specs.Code.{same_lists_of}
-use Rattle.alike.proofs.AnswerLaws.{fails, passes}
+use Rattle.alike.proofs.AnswerLaws.{list-same, numbers-same, fails, passes, five}
 use Rattle.alike.proofs.lists.same_lists.Goals as goal
+use Rattle.alike.proofs.lists.same_lists.Goals.{Joined-eq-3, then-eq, else-eq, then-eq-2, else-eq-2, then-eq-3, else-eq-3}
 
-pub returns-then-not-same_words : goal.returns-then-not-same_words
-unfolding same_lists_of
-returns-then-not-same_words c =
-    fails _ _ c.same_words.ensures c.if-not-same_words.true
+module _ (c : Joined-eq-3) where
+  abbrev suites : Bool
+  suites = same_numbers (take c.args.x.now.suite_count c.args.x.now.cipher_suites) (take c.args.y.now.suite_count c.args.y.now.cipher_suites)
 
-pub returns-then-not-same_groups : goal.returns-then-not-same_groups
-unfolding same_lists_of
-returns-then-not-same_groups c =
-    passes _ _ c.same_words.ensures c.if-not-same_words.false
-    (fails _ _ c.same_groups.ensures c.if-not-same_groups.true)
+  abbrev groups : Bool
+  groups = same_numbers (group_numbers c.args.x.now.supported_groups c.args.x.now.group_count) (group_numbers c.args.y.now.supported_groups c.args.y.now.group_count)
 
-pub returns-then-not-same_groups-2 : goal.returns-then-not-same_groups-2
-unfolding same_lists_of
-returns-then-not-same_groups-2 c =
-    passes _ _ c.same_words.ensures c.if-not-same_words.false
-    (passes _ _ c.same_groups.ensures c.if-not-same_groups.false
-    (fails _ _ c.same_groups-2.ensures c.if-not-same_groups-2.true))
+  abbrev shares : Bool
+  shares = same_numbers (group_numbers c.args.x.now.key_share_groups c.args.x.now.share_count) (group_numbers c.args.y.now.key_share_groups c.args.y.now.share_count)
 
-pub returns-then-not-same_words-2 : goal.returns-then-not-same_words-2
-unfolding same_lists_of
-returns-then-not-same_words-2 c =
-    passes _ _ c.same_words.ensures c.if-not-same_words.false
-    (passes _ _ c.same_groups.ensures c.if-not-same_groups.false
-    (passes _ _ c.same_groups-2.ensures c.if-not-same_groups-2.false
-    (fails _ _ c.same_words-2.ensures c.if-not-same_words-2.true)))
+  abbrev algorithms : Bool
+  algorithms = same_numbers (take c.args.x.now.algorithm_count c.args.x.now.signature_algorithms) (take c.args.y.now.algorithm_count c.args.y.now.signature_algorithms)
 
-pub returns : goal.returns
-unfolding same_lists_of
-returns c =
-    passes _ _ c.same_words.ensures c.if-not-same_words.false
-    (passes _ _ c.same_groups.ensures c.if-not-same_groups.false
-    (passes _ _ c.same_groups-2.ensures c.if-not-same_groups-2.false
-    (passes _ _ c.same_words-2.ensures c.if-not-same_words-2.false
-    c.same_words-3.ensures)))
+  abbrev versions : Bool
+  versions = same_numbers (take c.args.x.now.version_count c.args.x.now.supported_versions) (take c.args.y.now.version_count c.args.y.now.supported_versions)
+
+  one : c.eq.result ≡ suites
+  one = c.eq.ensures ∙ list-same eqb _ _
+
+  two : c.if-eq.value ≡ suites && groups
+  two =
+      elim c.if-eq.branch [
+        | then-eq w ↦ w.value-is ∙ passes _ _ one w.if-eq.true (w.eq-then-eq.ensures ∙ numbers-same group_number _ _)
+        | else-eq w ↦ w.value-is ∙ w.if-eq.false ∙ fails _ _ one w.if-eq.false
+      ]
+
+  three : c.if-eq-2.value ≡ (suites && groups) && shares
+  three =
+      elim c.if-eq-2.branch [
+        | then-eq-2 w ↦ w.value-is ∙ passes _ _ two w.if-eq-2.true (w.eq-then-eq-2.ensures ∙ numbers-same group_number _ _)
+        | else-eq-2 w ↦ w.value-is ∙ w.if-eq-2.false ∙ fails _ _ two w.if-eq-2.false
+      ]
+
+  four : c.if-eq-3.value ≡ ((suites && groups) && shares) && algorithms
+  four =
+      elim c.if-eq-3.branch [
+        | then-eq-3 w ↦ w.value-is ∙ passes _ _ three w.if-eq-3.true (w.eq-then-eq-3.ensures ∙ list-same eqb _ _)
+        | else-eq-3 w ↦ w.value-is ∙ w.if-eq-3.false ∙ fails _ _ three w.if-eq-3.false
+      ]
+
+  all : suites && (groups && (shares && (algorithms && versions))) ≡ same_lists_of c.args.x.now c.args.y.now
+  unfolding same_lists_of
+  all = refl
+
+  regrouped : (((suites && groups) && shares) && algorithms) && versions ≡ same_lists_of c.args.x.now c.args.y.now
+  regrouped = five suites groups shares algorithms versions ∙ all
+
+pub returns-then-eq-4 : goal.returns-then-eq-4
+returns-then-eq-4 c =
+    let joined = (goal.at.returns-then-eq-4 c).Joined-eq-3 in
+    passes _ _ (four joined) c.if-eq-4.true (c.eq-then-eq-4.ensures ∙ list-same eqb _ _) ∙ regrouped joined
+
+pub returns-else-eq-4 : goal.returns-else-eq-4
+returns-else-eq-4 c =
+    let joined = (goal.at.returns-else-eq-4 c).Joined-eq-3 in
+    c.if-eq-4.false ∙ fails _ _ (four joined) c.if-eq-4.false ∙ regrouped joined

@@ -1,30 +1,29 @@
 -- `alike::names::same_name` meets its contract: the names are those of the case that each is. Assumes nothing.
-use mathlib.Core.Path.{subst}
-use Rattle.fingerprint.specs.declared.Sni.{Sni}
-use Rattle.fingerprint.specs.InRange.{SniInside}
+use mathlib.Core.Path.{◌∙◌}
 use Rattle.alike.specs.Alike.{same_name}
 use Rattle.alike.proofs.AnswerLaws.{parts-as}
 use Rattle.alike.proofs.names.same_name.Goals as goal
 
-pub part-requires : goal.part-requires
-part-requires c = subst (λ (n : Sni). SniInside c.args.a.now n) c.in-At.is c.requires.0
-
-pub part-requires-in-At-y : goal.part-requires-in-At-y
-part-requires-in-At-y c = subst (λ (n : Sni). SniInside c.args.b.now n) c.in-At-y.is c.requires.1
-
-pub returns-in-At-y : goal.returns-in-At-y
+pub returns-in-Some-Some : goal.returns-in-Some-Some
 unfolding same_name
-returns-in-At-y c =
-    rw (c.in-At.is, c.in-At-y.is) (parts-as c.part.ensures c.part-in-At-y.ensures c.same.ensures)
+returns-in-Some-Some c =
+    let here = c.in-Some-Some in
+    rw (here.is-0, here.is-1) (c.eq.ensures ∙ parts-as c.part.ensures c.part-in-Some-Some.ensures)
 
-pub returns-in-Absent-y : goal.returns-in-Absent-y
+pub returns-in-None-None : goal.returns-in-None-None
 unfolding same_name
-returns-in-Absent-y c = rw (c.in-At.is, c.in-Absent-y.is)
+returns-in-None-None c =
+    let here = c.in-None-None in
+    rw (here.is-0, here.is-1)
 
-pub returns-in-At-y-2 : goal.returns-in-At-y-2
+pub returns-in_default : goal.returns-in_default
 unfolding same_name
-returns-in-At-y-2 c = rw (c.in-Absent.is, c.in-At-y-2.is)
+returns-in_default c =
+    let here = c.in_default in
+    rw (here.is-0, here.is-1)
 
-pub returns-in-Absent-y-2 : goal.returns-in-Absent-y-2
+pub returns-in_default-2 : goal.returns-in_default-2
 unfolding same_name
-returns-in-Absent-y-2 c = rw (c.in-Absent.is, c.in-Absent-y-2.is)
+returns-in_default-2 c =
+    let here = c.in_default in
+    rw (here.is-0, here.is-1)

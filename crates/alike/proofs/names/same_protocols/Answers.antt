@@ -1,13 +1,11 @@
 -- `alike::names::same_protocols` meets its contract: the names before place i are the same; counts or names that differ make lists that
 -- differ. Assumes nothing.
-use Prim.Native.Nat.{zero-le}
 use mathlib.Core.Path.{refl}
 use Rattle.fingerprint_lists.specs.Arrays.{span}
 use Rattle.fingerprint.specs.Code.{part_of}
 use Rattle.alike.proofs.SameLaws.{protocols-tests}
 use Rattle.alike.proofs.AnswerLaws.{parts_same, parts-differ}
 use Rattle.alike.proofs.PlaceLaws.{one_more, counts-differ, place-differs, all_same}
-use borrow.Author.Rules.{rules}
 use native.Mathlib.Omega.{arith}
 use Rattle.alike.proofs.names.same_protocols.Goals as goal
 
@@ -18,7 +16,7 @@ returns-then-n-m c =
     counts-differ (part_of args.a.now) (part_of args.b.now) (span 0 0) args.x args.y args.n args.m pre.0 pre.2 protocols-tests c.if-n-m.true
 
 pub loop-i-init : goal.loop-i-init
-loop-i-init c = (zero-le, refl)
+loop-i-init c = refl
 
 pub part-requires : goal.part-requires
 part-requires c = c.requires.1 c.loop-i.i c.loop-i-test.true
@@ -26,26 +24,22 @@ part-requires c = c.requires.1 c.loop-i.i c.loop-i-test.true
 pub part-requires-in-loop-i : goal.part-requires-in-loop-i
 part-requires-in-loop-i c = c.requires.3 c.loop-i.i (omega (arith, c.loop-i-test.true, c.if-n-m.false))
 
-pub returns-then-not-same : goal.returns-then-not-same
-returns-then-not-same c =
+pub returns-then-ne : goal.returns-then-ne
+returns-then-ne c =
     let args = c.args in
     let pre = c.requires in
-    let same = c.same in
     place-differs (part_of args.a.now) (part_of args.b.now) (span 0 0) args.x args.y args.n args.m pre.0 pre.2 protocols-tests
     c.loop-i.i c.loop-i-test.true
-    (parts-differ c.part.ensures c.part-in-loop-i.ensures same.ensures c.if-not-same.true)
+    (parts-differ c.part.ensures c.part-in-loop-i.ensures c.ne.ensures c.if-ne.true)
 
 pub loop-i-preserved : goal.loop-i-preserved
 loop-i-preserved c =
     let args = c.args in
     let pre = c.requires in
-    let same = c.same in
-    let l = c.loop-i in (
-      search rules,
-      one_more (part_of args.a.now) (part_of args.b.now) (span 0 0) args.x args.y args.n args.m pre.0 pre.2
-          c.if-n-m.false l.i c.loop-i-test.true l.invariant.1
-          (parts_same c.part.ensures c.part-in-loop-i.ensures same.ensures c.if-not-same.false),
-    )
+    let l = c.loop-i in
+    one_more (part_of args.a.now) (part_of args.b.now) (span 0 0) args.x args.y args.n args.m pre.0 pre.2
+    c.if-n-m.false l.i c.loop-i-test.true l.invariant
+    (parts_same c.part.ensures c.part-in-loop-i.ensures c.ne.ensures c.if-ne.false)
 
 pub returns : goal.returns
 returns c =
@@ -53,4 +47,4 @@ returns c =
     let pre = c.requires in
     let l = c.loop-i in
     all_same (part_of args.a.now) (part_of args.b.now) (span 0 0) args.x args.y args.n args.m pre.0 pre.2 protocols-tests
-    c.if-n-m.false l.i (omega arith) l.invariant.1
+    c.if-n-m.false l.i (omega arith) l.invariant

@@ -14,23 +14,23 @@ returns-then-n-lt39 c = not-in-form c.args.hello.now (fields (drop 4 c.args.hell
 
 pub returns-then-session-gt32 : goal.returns-then-session-gt32
 returns-then-session-gt32 c =
-    not-in-form c.args.hello.now (fields (drop 4 c.args.hello.now)) c.requires.is (session-long c.args.hello.now c.if-n-lt39.false c.wide-session.result (sym c.wide-session.ensures.0) c.if-session-gt32.true)
+    not-in-form c.args.hello.now (fields (drop 4 c.args.hello.now)) c.requires.is (session-long c.args.hello.now c.if-n-lt39.false c.from-session.result (sym c.from-session.ensures) c.if-session-gt32.true)
 
 pub returns-then-n-session : goal.returns-then-n-session
 returns-then-n-session c =
-    not-in-form c.args.hello.now (fields (drop 4 c.args.hello.now)) c.requires.is (session-cut c.args.hello.now c.if-n-lt39.false c.wide-session.result (sym c.wide-session.ensures.0) c.if-n-session.true)
+    not-in-form c.args.hello.now (fields (drop 4 c.args.hello.now)) c.requires.is (session-cut c.args.hello.now c.if-n-lt39.false c.from-session.result (sym c.from-session.ensures) c.if-n-session.true)
 
 pub after_session-requires : goal.after_session-requires
 after_session-requires c =
     let h = c.args.hello.now in
     let p = c.requires in
-    let n = c.wide-session.result in
+    let n = c.from-session.result in
     record {
       version = take 2 (drop 4 h);
       random = take 32 (drop 6 h);
       id = take n (drop 39 h);
-      is = p.is ∙ ap (λ (x : Option Fields). in_form x 19 result) (session-there h c.if-n-lt39.false n (sym c.wide-session.ensures.0) c.if-session-gt32.false c.if-n-session.false);
-      session-is = session-length h c.if-n-lt39.false n (sym c.wide-session.ensures.0) c.if-n-session.false;
+      is = p.is ∙ ap (λ (x : Option Fields). in_form x 19 result) (session-there h c.if-n-lt39.false n (sym c.from-session.ensures) c.if-session-gt32.false c.if-n-session.false);
+      session-is = session-length h c.if-n-lt39.false n (sym c.from-session.ensures) c.if-n-session.false;
       inside = omega (arith, c.if-n-lt39.false, c.if-n-session.false);
       short = p.short;
     }

@@ -1,21 +1,20 @@
 -- `read_head` goes on from the fields: more than 64 suites are refused. Assumes nothing.
-use mathlib.Core.Path.{subst}
-use Rattle.fingerprint.specs.Code.{FieldsAs, FieldsFound}
-use Rattle.fingerprint.specs.declared.head.Head.{Head}
+use Rattle.std.proofs.lemmas.Result.{err_from_is_err_and}
+use Rattle.fingerprint.specs.Code.{FieldsFound}
 use Rattle.fingerprint.proofs.HeadAnswers.{many-suites, head-there, fields-refused}
 use Rattle.fingerprint.proofs.head.read_head.Goals as goal
-use Rattle.fingerprint.proofs.head.read_head.Goals.{In-Fields}
+use Rattle.fingerprint.proofs.head.read_head.Goals.{In_ok-head}
 
-found : (c : In-Fields) → FieldsFound c.args.hello.now c.in-Fields.session c.in-Fields.suites c.in-Fields.block
-found c = subst (λ (x : Head). FieldsAs x c.args.hello.now) c.in-Fields.is c.read_fields.ensures
+found : (c : In_ok-head) → FieldsFound c.args.hello.now c.in_ok-head.head
+found c = rw c.in_ok-head.was at c.read_fields.ensures
 
-pub returns-then-suites-gt128 : goal.returns-then-suites-gt128
-returns-then-suites-gt128 c = many-suites (found (goal.at.returns-then-suites-gt128 c).In-Fields) c.if-suites-gt128.true
+pub returns-in_err-head : goal.returns-in_err-head
+returns-in_err-head c =
+    let p = err_from_is_err_and c.from_residual.result c.from_residual.ensures.1 in
+    rw (p.1, p.2) (fields-refused c.args.hello.now _ (rw c.in_err-head.was at c.read_fields.ensures))
 
-pub returns-else-suites-gt128 : goal.returns-else-suites-gt128
-returns-else-suites-gt128 c = head-there (found (goal.at.returns-else-suites-gt128 c).In-Fields) c.if-suites-gt128.false
+pub returns-then-head-gt128 : goal.returns-then-head-gt128
+returns-then-head-gt128 c = many-suites (found (goal.at.returns-then-head-gt128 c).In_ok-head) c.if-head-gt128.true
 
-pub returns-in-Refused : goal.returns-in-Refused
-returns-in-Refused c =
-    fields-refused c.args.hello.now c.in-Refused.number
-    (subst (λ (x : Head). FieldsAs x c.args.hello.now) c.in-Refused.is c.read_fields.ensures)
+pub returns : goal.returns
+returns c = head-there (found (goal.at.returns c).In_ok-head) c.if-head-gt128.false

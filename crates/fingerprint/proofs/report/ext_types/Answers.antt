@@ -23,7 +23,7 @@ pub loop-i-preserved : goal.loop-i-preserved
 loop-i-preserved c =
     let l = c.loop-i in
     let s = c.args.numbers.now in
-    let long : length s ≡ 64 = c.requires in
+    let long : length s ≡ 64 = c.told-numbers in
     let next = items-next s l.i 0 (omega (arith, c.loop-i-test.true)) in
     filled_next l.invariant (ap (map ext_type) next) (omega (arith, length-map s ext_type, long))
 
@@ -31,6 +31,6 @@ pub returns : goal.returns
 returns c =
     let l = c.loop-i in
     let s = c.args.numbers.now in
-    let long : length s ≡ 64 = c.requires in
+    let long : length s ≡ 64 = c.told-numbers in
     let none_left = drop_of_length-le s {i = l.i} (omega (arith, c.loop-i-test.false, long)) in
     filled-end l.invariant (ap (map ext_type) none_left) ∙ filled-all (map ext_type s) (length-map s ext_type ∙ long)

@@ -1,5 +1,4 @@
 -- `ext_types` fills the array with one type after the other. Assumes nothing.
-use Prim.Native.Nat.{◌-◌}
 use mathlib.Core.List.{map}
 use lib.ListN.{drop}
 use Rattle.fingerprint_lists.specs.Arrays.{ext_type}
@@ -8,6 +7,3 @@ use Rattle.fingerprint.proofs.report.ext_types.Given as goal
 
 abbrev pub invariant-loop-i : goal.invariant-loop-i
 invariant-loop-i l = Filled 64 (ext_type 0) (map ext_type l.numbers) l.i l.types (map ext_type (drop l.i l.numbers))
-
-abbrev pub decreases-loop-i : goal.decreases-loop-i
-decreases-loop-i l = 64 - l.i

@@ -13,8 +13,7 @@ use Rattle.fingerprint.proofs.report.report.Goals as goal
 
 pub words_in-suite_list-requires : goal.words_in-suite_list-requires
 words_in-suite_list-requires c =
-    let s = c in
-    rw c.part.ensures (omega (arith, length-part-of s.args.hello.now s.args.suites s.requires.suites-inside, s.requires.suites-few))
+    rw c.part.ensures (omega (arith, length-part-of c.args.hello.now c.args.head.suites c.requires.suites-inside, c.requires.suites-few))
 
 pub part-requires-2 : goal.part-requires-2
 part-requires-2 c = c.requires.inside groups
@@ -43,13 +42,10 @@ word_list-versions-requires c = rw c.part-5.ensures (omega arith, omega arith, g
 pub part-requires-6 : goal.part-requires-6
 part-requires-6 c = c.requires.inside protocols
 
-pub protocol_names-alpn-requires : goal.protocol_names-alpn-requires
-protocol_names-alpn-requires c =
+pub protocol_names-names-requires : goal.protocol_names-names-requires
+protocol_names-names-requires c =
     let p = c.requires in
     rw c.part-6.ensures (good-protocols p, omega (arith, length-note p protocols, p.inside protocols, p.short))
-
-pub ext_types-requires : goal.ext_types-requires
-ext_types-requires c = omega (arith, c.well_formed)
 
 pub name_in-requires : goal.name_in-requires
 name_in-requires c =
@@ -58,30 +54,24 @@ name_in-requires c =
 
 pub returns : goal.returns
 returns c =
-    let names = c in
-    let versions = names in
-    let algorithms = versions in
-    let shares = algorithms in
-    let groups = shares in
-    let suites = groups in
-    let at = (note_of suites.args.found protocols).start in
+    let at = (note_of c.args.found protocols).start in
     record {
       is = λ v f.
           report-shown f
-          suites.words_in-suite_list.result
+          c.words_in-suite_list.result
           c.ext_types.result
-          groups.group_list-groups.result
-          shares.key_share_groups-shares.result
-          algorithms.word_list-algorithms.result
-          versions.word_list-versions.result
-          names.protocol_names-alpn.result
+          c.group_list-groups.result
+          c.key_share_groups-shares.result
+          c.word_list-algorithms.result
+          c.word_list-versions.result
+          c.protocol_names-names.result
           c.name_in.result
-          (suites.words_in-suite_list.ensures ∙ ap (λ (b : List ℕ). words_of (words_in b)) suites.part.ensures)
+          (c.words_in-suite_list.ensures ∙ ap (λ (b : List ℕ). words_of (words_in b)) c.part.ensures)
           c.ext_types.ensures
-          (groups.group_list-groups.ensures ∙ ap (λ (b : List ℕ). groups_of (or_empty (word_list 2 b))) groups.part-2.ensures)
-          (shares.key_share_groups-shares.ensures ∙ ap (λ (b : List ℕ). groups_of (map group_of (or_empty (key_shares b)))) shares.part-3.ensures)
-          (algorithms.word_list-algorithms.ensures ∙ ap (λ (b : List ℕ). words_of (or_empty (word_list 2 b))) algorithms.part-4.ensures)
-          (versions.word_list-versions.ensures ∙ ap (λ (b : List ℕ). words_of (or_empty (word_list 1 b))) versions.part-5.ensures)
-          (names.protocol_names-alpn.ensures ∙ ap (λ (b : List ℕ). spans_of (placed (at + 2) (or_empty (protocol_names b)))) names.part-6.ensures)
+          (c.group_list-groups.ensures ∙ ap (λ (b : List ℕ). groups_of (or_empty (word_list 2 b))) c.part-2.ensures)
+          (c.key_share_groups-shares.ensures ∙ ap (λ (b : List ℕ). groups_of (map group_of (or_empty (key_shares b)))) c.part-3.ensures)
+          (c.word_list-algorithms.ensures ∙ ap (λ (b : List ℕ). words_of (or_empty (word_list 2 b))) c.part-4.ensures)
+          (c.word_list-versions.ensures ∙ ap (λ (b : List ℕ). words_of (or_empty (word_list 1 b))) c.part-5.ensures)
+          (c.protocol_names-names.ensures ∙ ap (λ (b : List ℕ). spans_of (placed (at + 2) (or_empty (protocol_names b)))) c.part-6.ensures)
           c.name_in.ensures;
     }

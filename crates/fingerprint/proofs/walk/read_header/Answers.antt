@@ -12,7 +12,7 @@ pub returns-then-n-at-lt4 : goal.returns-then-n-at-lt4
 returns-then-n-at-lt4 c = head-short c.args.hello.now c.args.at c.if-n-at-lt4.true
 
 pub returns-then-n-start : goal.returns-then-n-start
-returns-then-n-start c = head-long c.args.hello.now c.args.at c.be16-length.result c.if-n-at-lt4.false (c.be16-length.ensures ∙ ap (λ (s : List ℕ). number 256 (take 2 s)) (part_to_end c.args.hello.now (c.args.at + 2))) c.if-n-start.true
+returns-then-n-start c = head-long c.args.hello.now c.args.at c.from-length.result c.if-n-at-lt4.false (c.from-length.ensures ∙ c.be16.ensures ∙ ap (λ (s : List ℕ). number 256 (take 2 s)) (part_to_end c.args.hello.now (c.args.at + 2))) c.if-n-start.true
 
 pub returns : goal.returns
-returns c = head-found c.args.hello.now c.args.at c.be16-length.result c.if-n-at-lt4.false (c.be16-length.ensures ∙ ap (λ (s : List ℕ). number 256 (take 2 s)) (part_to_end c.args.hello.now (c.args.at + 2))) c.be16.result (c.be16.ensures ∙ ap (λ (s : List ℕ). number 256 (take 2 s)) (part_to_end c.args.hello.now c.args.at)) c.if-n-start.false
+returns c = head-found c.args.hello.now c.args.at c.from-length.result c.if-n-at-lt4.false (c.from-length.ensures ∙ c.be16.ensures ∙ ap (λ (s : List ℕ). number 256 (take 2 s)) (part_to_end c.args.hello.now (c.args.at + 2))) c.be16-2.result (c.be16-2.ensures ∙ ap (λ (s : List ℕ). number 256 (take 2 s)) (part_to_end c.args.hello.now c.args.at)) c.if-n-start.false

@@ -1,5 +1,5 @@
 -- The loop keeps `Standing`: the words before place i stand in the output. Assumes nothing.
-use Prim.Native.Nat.{◌+◌, ◌*◌, zero-le}
+use Prim.Native.Nat.{◌+◌, ◌*◌}
 use mathlib.Core.Path.{◌≡◌, refl, sym}
 use mathlib.Core.List.{◌∷◌}
 use lib.ListN.{drop}
@@ -21,23 +21,23 @@ next c =
     words-next list c.loop-i.i c.loop-i-test.true c.be16.ensures
 
 pub loop-i-init : goal.loop-i-init
-loop-i-init c = (zero-le, stand-start (length-little 2) refl (omega (arith, length-words_in c.args.list.now)))
+loop-i-init c = stand-start (length-little 2) refl (omega (arith, length-words_in c.args.list.now))
 
 pub be16-requires : goal.be16-requires
 be16-requires c =
     let args = c.args in
     omega (arith, length-part-to-end args.list.now (2 * c.loop-i.i), c.loop-i-test.true)
 
-pub put_word-requires : goal.put_word-requires
-put_word-requires c = stand-room c.loop-i.invariant.1 (next c)
+pub put-requires : goal.put-requires
+put-requires c = stand-room c.loop-i.invariant (next (goal.at.put-requires c).After-be16)
 
 pub loop-i-preserved : goal.loop-i-preserved
 loop-i-preserved c =
     let loop = c.loop-i in
-    (omega arith, stand-next loop.invariant.1 (next (goal.at.loop-i-preserved c).After-be16) c.put_word.ensures (omega arith))
+    stand-next loop.invariant (next (goal.at.loop-i-preserved c).After-be16) c.put.ensures (omega arith)
 
 pub returns : goal.returns
 returns c =
     let list = c.args.list.now in
     let loop = c.loop-i in
-    (sym (length-words_in list), stand-end loop.invariant.1 (words-end list loop.i c.loop-i-test.false) (numbers-are 2 (words_in list)))
+    (sym (length-words_in list), stand-end loop.invariant (words-end list loop.i c.loop-i-test.false) (numbers-are 2 (words_in list)))

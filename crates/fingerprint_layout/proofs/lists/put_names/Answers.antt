@@ -9,20 +9,20 @@ use Rattle.fingerprint_lists.proofs.WalkLaws.{name_spans, NameTurn, names-start,
 use Rattle.fingerprint_layout.proofs.PieceLaws.{stand-start, stand-room, stand-fits, stand-next, stand-count, stand-end, range-wide, ranges-are}
 use native.Mathlib.Omega.{arith}
 use Rattle.fingerprint_layout.proofs.lists.put_names.Goals as goal
-use Rattle.fingerprint_layout.proofs.lists.put_names.Goals.{In-Whole}
+use Rattle.fingerprint_layout.proofs.lists.put_names.Goals.{In-Some}
 
-turn : (c : In-Whole) →
+turn : (c : In-Some) →
     let args = c.args in
     let loop = c.loop-at in
-    let length = c.in-Whole.length in
-    NameTurn args.start args.list.now loop.k loop.at (loop.at + 1 + length) (span (args.start + loop.at + 1) length)
+    let length = c.in-Some.length in
+    NameTurn args.start args.list.now loop.k loop.at (loop.at + (1 + length)) (span (args.start + loop.at + 1) length)
 turn c =
     let args = c.args in
     let loop = c.loop-at in
     let one_name = c.one_name in
-    name-turn args.start loop.invariant.0 c.loop-at-test.true one_name.result one_name.ensures c.in-Whole.is
+    name-turn args.start loop.invariant.0 c.loop-at-test.true one_name.result one_name.ensures c.in-Some.is
 
-fits : (c : In-Whole) →
+fits : (c : In-Some) →
     let loop = c.loop-at in
     4 * loop.k + 4 ≤ length loop.out
 fits c = stand-fits c.loop-at.invariant.1 (turn c).first
@@ -38,31 +38,31 @@ pub overflow_mul-k : goal.overflow_mul-k
 overflow_mul-k c = omega (arith, fits c)
 
 pub overflow_add-start : goal.overflow_add-start
-overflow_add-start c = omega (arith, (turn (goal.at.overflow_add-start c).In-Whole).within, c.requires.1)
+overflow_add-start c = omega (arith, (turn (goal.at.overflow_add-start c).In-Some).within, c.requires.1)
 
 pub overflow_add-start-in-loop-at : goal.overflow_add-start-in-loop-at
-overflow_add-start-in-loop-at c = omega (arith, (turn (goal.at.overflow_add-start-in-loop-at c).In-Whole).within, c.requires.1)
+overflow_add-start-in-loop-at c = omega (arith, (turn (goal.at.overflow_add-start-in-loop-at c).In-Some).within, c.requires.1)
 
 pub put_range-requires : goal.put_range-requires
-put_range-requires c = stand-room c.loop-at.invariant.1 (turn (goal.at.put_range-requires c).In-Whole).first
+put_range-requires c = stand-room c.loop-at.invariant.1 (turn (goal.at.put_range-requires c).In-Some).first
 
 pub overflow_add-at : goal.overflow_add-at
-overflow_add-at c = omega (arith, (turn (goal.at.overflow_add-at c).In-Whole).within)
+overflow_add-at c = omega (arith, (turn (goal.at.overflow_add-at c).In-Some).within)
 
 pub overflow_add-at-in-loop-at : goal.overflow_add-at-in-loop-at
-overflow_add-at-in-loop-at c = omega (arith, (turn (goal.at.overflow_add-at-in-loop-at c).In-Whole).within)
+overflow_add-at-in-loop-at c = omega (arith, (turn (goal.at.overflow_add-at-in-loop-at c).In-Some).within)
 
 pub overflow_add-k : goal.overflow_add-k
-overflow_add-k c = omega (arith, fits (goal.at.overflow_add-k c).In-Whole)
+overflow_add-k c = omega (arith, fits (goal.at.overflow_add-k c).In-Some)
 
 pub loop-at-smaller : goal.loop-at-smaller
 loop-at-smaller c =
-    let t = turn (goal.at.loop-at-smaller c).In-Whole in
+    let t = turn (goal.at.loop-at-smaller c).In-Some in
     omega (arith, t.forward, t.within)
 
 pub loop-at-preserved : goal.loop-at-preserved
 loop-at-preserved c =
-    let t = turn (goal.at.loop-at-preserved c).In-Whole in
+    let t = turn (goal.at.loop-at-preserved c).In-Some in
     (t.next, stand-next c.loop-at.invariant.1 t.first c.put_range.ensures (omega arith))
 
 pub returns-after-loop-at : goal.returns-after-loop-at

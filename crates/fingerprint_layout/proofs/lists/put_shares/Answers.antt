@@ -5,17 +5,17 @@ use Rattle.fingerprint_lists.proofs.WalkLaws.{share_groups, ShareTurn, shares-st
 use Rattle.fingerprint_layout.proofs.PieceLaws.{stand-start, stand-room, stand-fits, stand-next, stand-count, stand-end, numbers-are, length-little}
 use native.Mathlib.Omega.{arith}
 use Rattle.fingerprint_layout.proofs.lists.put_shares.Goals as goal
-use Rattle.fingerprint_layout.proofs.lists.put_shares.Goals.{In-Whole}
+use Rattle.fingerprint_layout.proofs.lists.put_shares.Goals.{In-Some}
 
-turn : (c : In-Whole) →
+turn : (c : In-Some) →
     let loop = c.loop-at in
-    ShareTurn c.args.list.now loop.k loop.at (loop.at + c.in-Whole.used) c.in-Whole.group
+    ShareTurn c.args.list.now loop.k loop.at (loop.at + c.in-Some.share.used) c.in-Some.share.group
 turn c =
     let loop = c.loop-at in
     let one-share = c.one_share in
-    share-turn loop.invariant.0 c.loop-at-test.true one-share.result one-share.ensures c.in-Whole.is
+    share-turn loop.invariant.0 c.loop-at-test.true one-share.result one-share.ensures c.in-Some.is
 
-fits : (c : In-Whole) →
+fits : (c : In-Some) →
     let loop = c.loop-at in
     2 * loop.k + 2 ≤ length loop.out
 fits c = stand-fits c.loop-at.invariant.1 (turn c).first
@@ -29,24 +29,24 @@ loop-at-init c =
 pub overflow_mul-k : goal.overflow_mul-k
 overflow_mul-k c = omega (arith, fits c)
 
-pub put_word-requires : goal.put_word-requires
-put_word-requires c = stand-room c.loop-at.invariant.1 (turn (goal.at.put_word-requires c).In-Whole).first
+pub put-requires : goal.put-requires
+put-requires c = stand-room c.loop-at.invariant.1 (turn (goal.at.put-requires c).In-Some).first
 
 pub overflow_add-at : goal.overflow_add-at
-overflow_add-at c = omega (arith, (turn (goal.at.overflow_add-at c).In-Whole).within)
+overflow_add-at c = omega (arith, (turn (goal.at.overflow_add-at c).In-Some).within)
 
 pub overflow_add-k : goal.overflow_add-k
-overflow_add-k c = omega (arith, fits (goal.at.overflow_add-k c).In-Whole)
+overflow_add-k c = omega (arith, fits (goal.at.overflow_add-k c).In-Some)
 
 pub loop-at-smaller : goal.loop-at-smaller
 loop-at-smaller c =
-    let t = turn (goal.at.loop-at-smaller c).In-Whole in
+    let t = turn (goal.at.loop-at-smaller c).In-Some in
     omega (arith, t.forward, t.within)
 
 pub loop-at-preserved : goal.loop-at-preserved
 loop-at-preserved c =
-    let t = turn (goal.at.loop-at-preserved c).In-Whole in
-    (t.next, stand-next c.loop-at.invariant.1 t.first c.put_word.ensures (omega arith))
+    let t = turn (goal.at.loop-at-preserved c).In-Some in
+    (t.next, stand-next c.loop-at.invariant.1 t.first c.put.ensures (omega arith))
 
 pub returns-after-loop-at : goal.returns-after-loop-at
 returns-after-loop-at c =

@@ -1,28 +1,28 @@
--- The loop keeps `Standing`: the numbers before place i stand in the output. Assumes nothing.
-use mathlib.Core.Path.{refl}
+-- The loop keeps `Standing`: the numbers before the item stand in the output. Assumes nothing.
+use Prim.Native.Nat.{ℕ, ◌+◌}
+use mathlib.Core.Path.{refl, sym, ap, ◌∙◌}
+use mathlib.Core.List.{◌∷◌}
 use native.Mathlib.Omega.{arith}
-use lib.ListN.{drop_of_length-le}
+use lib.ListN.{drop, drop_of_length-le}
 use Rattle.fingerprint_lists.proofs.FillLaws.{items-next}
-use Rattle.fingerprint_layout.proofs.PieceLaws.{stand-start, stand-room, stand-next, stand-end, numbers-are, length-little}
+use Rattle.fingerprint_layout.proofs.PieceLaws.{stand-start, stand-next, stand-end, values-are, length-little}
 use Rattle.fingerprint_layout.proofs.numbers.put_numbers.Goals as goal
 
-pub loop-i-init : goal.loop-i-init
-loop-i-init c = (omega arith, stand-start (length-little 2) refl (omega arith))
+pub loop-item-init : goal.loop-item-init
+loop-item-init g c = stand-start (λ x. length-little g.T.Little.WIDTH (g.T.Little.value x)) refl c.requires
 
-pub put_count-requires : goal.put_count-requires
-put_count-requires c =
-    let loop = c.loop-i in
+pub loop-item-preserved : goal.loop-item-preserved
+loop-item-preserved g c =
+    let loop = c.loop-item in
     let items = c.args.items.now in
-    stand-room loop.invariant.1 (items-next items loop.i 0 (omega arith))
-
-pub loop-i-preserved : goal.loop-i-preserved
-loop-i-preserved c =
-    let loop = c.loop-i in
-    let items = c.args.items.now in
-    (omega arith, stand-next loop.invariant.1 (items-next items loop.i 0 (omega arith)) c.put_count.ensures refl)
+    let item = c.item-item in
+    let next =
+    items-next items loop.item-index item.result c.loop-item-test.true
+    ∙ ap (λ x. x ∷ drop (loop.item-index + 1) items) (sym item.is) in
+    stand-next loop.invariant next c.put.ensures (ap (λ (n : ℕ). loop.at + n) (sym c.WIDTH-at.ensures))
 
 pub returns : goal.returns
-returns c =
-    let loop = c.loop-i in
+returns g c =
+    let loop = c.loop-item in
     let items = c.args.items.now in
-    stand-end loop.invariant.1 (drop_of_length-le items {i = loop.i} (omega arith)) (numbers-are 2 items)
+    stand-end loop.invariant (drop_of_length-le items {i = loop.item-index} (omega arith)) (values-are g.T.Little.WIDTH g.T.Little.value items)

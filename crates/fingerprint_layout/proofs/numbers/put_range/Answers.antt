@@ -5,6 +5,6 @@ use Rattle.fingerprint_layout.proofs.numbers.put_range.Goals as goal
 
 pub returns : goal.returns
 returns c =
-    let start = c.put_count in
-    let count = c.put_count-2 in
+    let start = c.put in
+    let count = c.put-2 in
     (put_as (two-littles _ _) (joined (filled (length-little 2 _) start.ensures) (filled (length-little 2 _) count.ensures))).output

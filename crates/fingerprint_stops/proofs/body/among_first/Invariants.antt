@@ -7,8 +7,4 @@ use Rattle.fingerprint_stops.specs.Code.{first_ids}
 use Rattle.fingerprint_stops.proofs.body.among_first.Given as goal
 
 abbrev pub invariant-loop-i : goal.invariant-loop-i
-invariant-loop-i l =
-    (l.i ≤ l.k) × (l.at ≤ length l.body) × (member l.id (first_ids l.k l.body) ≡ member l.id (first_ids (l.k - l.i) (drop l.at l.body)))
-
-abbrev pub decreases-loop-i : goal.decreases-loop-i
-decreases-loop-i l = l.k - l.i
+invariant-loop-i l = (l.at ≤ length l.body) × (member l.id (first_ids l.k l.body) ≡ member l.id (first_ids (l.k - l._i) (drop l.at l.body)))

@@ -27,18 +27,18 @@ fits c =
     let args = c.args in
     let loop = c.loop-k in
     let rest : List ℕ = drop loop.at args.list.now in
-    omega (arith, size c, entry-within (kind_at args.place) rest, length-drop loop.at args.list.now, loop.invariant.1)
+    omega (arith, size c, entry-within (kind_at args.place) rest, length-drop loop.at args.list.now, loop.invariant.0)
 
 pub loop-k-init : goal.loop-k-init
-loop-k-init c = (zero-le, zero-le, passed_start (kind_at c.args.place) c.args.list.now c.args.n)
+loop-k-init c = (zero-le, passed_start (kind_at c.args.place) c.args.list.now c.args.n)
 
 pub returns-then-size-eq0 : goal.returns-then-size-eq0
 returns-then-size-eq0 c =
     let args = c.args in
     let loop = c.loop-k in
     let test = c.loop-k-test in
-    let none_left = passed_none (kind_at args.place) args.list.now args.n loop.k loop.at test.true (sym c.if-size-eq0.true ∙ size (goal.at.returns-then-size-eq0 c).After-entry_size-size) in
-    (omega (arith, loop.invariant.2, none_left), loop.invariant.1)
+    let none_left = passed_none (kind_at args.place) args.list.now args.n loop._k loop.at test.true (sym c.if-size-eq0.true ∙ size (goal.at.returns-then-size-eq0 c).After-entry_size-size) in
+    (omega (arith, loop.invariant.1, none_left), loop.invariant.0)
 
 pub overflow_add-at : goal.overflow_add-at
 overflow_add-at c = omega (arith, fits (goal.at.overflow_add-at c).After-entry_size-size)
@@ -48,12 +48,12 @@ loop-k-preserved c =
     let args = c.args in
     let loop = c.loop-k in
     let test = c.loop-k-test in
-    let next = passed-next (kind_at args.place) args.list.now args.n loop.k loop.at test.true c.entry_size-size.result c.if-size-eq0.false (size (goal.at.loop-k-preserved c).After-entry_size-size) in
-    (omega (arith, test.true), fits (goal.at.loop-k-preserved c).After-entry_size-size, omega (arith, loop.invariant.2, next))
+    let next = passed-next (kind_at args.place) args.list.now args.n loop._k loop.at test.true c.entry_size-size.result c.if-size-eq0.false (size (goal.at.loop-k-preserved c).After-entry_size-size) in
+    (fits (goal.at.loop-k-preserved c).After-entry_size-size, omega (arith, loop.invariant.1, next))
 
 pub returns : goal.returns
 returns c =
     let args = c.args in
     let loop = c.loop-k in
-    let end = passed-end (kind_at args.place) args.list.now args.n loop.k loop.at c.loop-k-test.false in
-    (omega (arith, loop.invariant.2, end), loop.invariant.1)
+    let end = passed-end (kind_at args.place) args.list.now args.n loop._k loop.at c.loop-k-test.false in
+    (omega (arith, loop.invariant.1, end), loop.invariant.0)

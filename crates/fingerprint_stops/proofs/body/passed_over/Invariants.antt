@@ -8,7 +8,4 @@ use Rattle.fingerprint_stops.proofs.body.passed_over.Given as goal
 
 abbrev pub invariant-loop-k : goal.invariant-loop-k
 invariant-loop-k l =
-    (l.k ≤ l.n) × (l.at ≤ length l.list) × (passed (kind_at l.place) l.n l.list ≡ l.at + passed (kind_at l.place) (l.n - l.k) (drop l.at l.list))
-
-abbrev pub decreases-loop-k : goal.decreases-loop-k
-decreases-loop-k l = l.n - l.k
+    (l.at ≤ length l.list) × (passed (kind_at l.place) l.n l.list ≡ l.at + passed (kind_at l.place) (l.n - l._k) (drop l.at l.list))

@@ -9,14 +9,14 @@ returns-then-n-at-lt1 c = compression-short c.args.hello.now c.args.at c.if-n-at
 pub returns-then-length-eq0 : goal.returns-then-length-eq0
 returns-then-length-eq0 c =
     let args = c.args in
-    compression-empty args.hello.now args.at (search rules) c.wide-length.result c.wide-length.ensures.0 c.if-length-eq0.true
+    compression-empty args.hello.now args.at (search rules) c.from-length.result c.from-length.ensures c.if-length-eq0.true
 
 pub returns-then-n-at : goal.returns-then-n-at
 returns-then-n-at c =
     let args = c.args in
-    compression-cut args.hello.now args.at (search rules) c.wide-length.result c.wide-length.ensures.0 c.if-n-at.true
+    compression-cut args.hello.now args.at (search rules) c.from-length.result c.from-length.ensures c.if-n-at.true
 
 pub returns : goal.returns
 returns c =
     let args = c.args in
-    compression-there args.hello.now args.at (search rules) c.wide-length.result c.wide-length.ensures.0 c.if-length-eq0.false c.if-n-at.false
+    compression-there args.hello.now args.at (search rules) c.from-length.result c.from-length.ensures c.if-length-eq0.false c.if-n-at.false

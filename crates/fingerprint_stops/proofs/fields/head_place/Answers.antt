@@ -1,24 +1,38 @@
--- `head_place` goes by the number, as the definition does. Assumes nothing.
-use Rattle.std.proofs.Common.{rules}
-use Prim.Native.Nat.{ℕ}
-use mathlib.Core.Path.{sym, ap, ◌∙◌}
+-- `head_place` goes by the refusal, as the definition does by its number. Assumes nothing.
+use mathlib.Core.Path.{◌≡◌, sym, ap, ◌∙◌}
+use native.Mathlib.Omega.{arith}
+use Rattle.wire.specs.Refusals.{question}
+use Rattle.wire.specs.declared.refusals.Refusal.{Refusal}
+use Rattle.wire.specs.declared.refusals.Refusal.TheVariants as no
 use Rattle.fingerprint_stops.specs.Stops.{head_place}
 use Rattle.fingerprint_stops.proofs.FieldLaws.{field-there}
 use Rattle.fingerprint_stops.proofs.fields.head_place.Goals as goal
 
-pub returns-in-16 : goal.returns-in-16
-unfolding head_place
-returns-in-16 c = ap (λ (n : ℕ). head_place c.args.hello.now n) (sym c.in-16.is)
+too-long : (e : Refusal) → question e ≡ 16 → e ≡ no.HelloTooLong
+too-long e q = grind (arith, q)
 
-pub returns-in-17 : goal.returns-in-17
-unfolding head_place
-returns-in-17 c = ap (λ (n : ℕ). head_place c.args.hello.now n) (sym c.in-17.is)
+no_hello : (e : Refusal) → question e ≡ 17 → e ≡ no.NoClientHello
+no_hello e q = grind (arith, q)
 
-pub returns-in-18 : goal.returns-in-18
+wrong-length : (e : Refusal) → question e ≡ 18 → e ≡ no.WrongLength
+wrong-length e q = grind (arith, q)
+
+pub returns-in-HelloTooLong : goal.returns-in-HelloTooLong
 unfolding head_place
-returns-in-18 c = ap (λ (n : ℕ). head_place c.args.hello.now n) (sym c.in-18.is)
+returns-in-HelloTooLong c = ap (λ (e : Refusal). head_place c.args.hello.now (question e)) (sym c.in-HelloTooLong.is)
+
+pub returns-in-NoClientHello : goal.returns-in-NoClientHello
+unfolding head_place
+returns-in-NoClientHello c = ap (λ (e : Refusal). head_place c.args.hello.now (question e)) (sym c.in-NoClientHello.is)
+
+pub returns-in-WrongLength : goal.returns-in-WrongLength
+unfolding head_place
+returns-in-WrongLength c = ap (λ (e : Refusal). head_place c.args.hello.now (question e)) (sym c.in-WrongLength.is)
 
 pub returns-in_default : goal.returns-in_default
 returns-in_default c =
-    let args = c.args in
-    c.field_place.ensures ∙ field-there args.hello.now args.number (search rules) (search rules) (search rules)
+    let e = c.args.refusal in
+    let other = c.in_default in
+    c.field_place.ensures
+    ∙ field-there c.args.hello.now (question e)
+    (λ q. other.not-HelloTooLong (too-long e q)) (λ q. other.not-NoClientHello (no_hello e q)) (λ q. other.not-WrongLength (wrong-length e q))

@@ -10,15 +10,15 @@ returns-then-n-lt39 c = session-short c.args.hello.now c.if-n-lt39.true
 pub returns-then-length-gt32 : goal.returns-then-length-gt32
 returns-then-length-gt32 c =
     let args = c.args in
-    session-long args.hello.now (search rules) c.wide-length.result c.wide-length.ensures.0 c.if-length-gt32.true
+    session-long args.hello.now (search rules) c.from-length.result c.from-length.ensures c.if-length-gt32.true
 
 pub returns-then-n-length : goal.returns-then-n-length
 returns-then-n-length c =
     let args = c.args in
-    session-cut args.hello.now (search rules) c.wide-length.result c.wide-length.ensures.0 c.if-n-length.true
+    session-cut args.hello.now (search rules) c.from-length.result c.from-length.ensures c.if-n-length.true
 
 pub returns : goal.returns
 returns c =
     let args = c.args in
     c.suites_place.ensures
-    ∙ session-there args.hello.now (search rules) c.wide-length.result c.wide-length.ensures.0 c.if-length-gt32.false c.if-n-length.false
+    ∙ session-there args.hello.now (search rules) c.from-length.result c.from-length.ensures c.if-length-gt32.false c.if-n-length.false

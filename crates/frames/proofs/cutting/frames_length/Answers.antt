@@ -1,45 +1,46 @@
 -- The loop keeps `Left`: n bytes are counted, and what is still to be cut makes the others. Assumes nothing.
-use Rattle.frames.proofs.CutLaws.{Turn, starts, ends, turn, goes_on, next_small, data-small}
+use mathlib.Core.Path.{ap, ◌∙◌}
+use lib.ListN.{length, length-drop}
+use Rattle.std.specs.Slice.Iter.{chunks_rest}
+use Rattle.frames.proofs.CutLaws.{Next, next-piece, frame_at, starts, ends, goes_on, next_small}
 use native.Mathlib.Omega.{arith}
 use Rattle.frames.proofs.cutting.frames_length.Goals as goal
-use Rattle.frames.proofs.cutting.frames_length.Goals.{After-data_end-end}
+use Rattle.frames.proofs.cutting.frames_length.Goals.{In-Some}
 
-frame : (c : After-data_end-end) →
-    let args = c.args in
-    let loop = c.loop-at in
-    Turn args.c args.hello.now loop.at c.data_end-end.result loop.n
-frame c =
-    let args = c.args in
-    let loop = c.loop-at in
-    let data-end = c.data_end-end in
-    let pre = c.requires in
-    turn args.c args.hello.now loop.at data-end.result data-end.ensures loop.invariant c.loop-at-test.true pre.0
+next : (c : In-Some) →
+    let loop = c.loop-piece in
+    Next c.args.c c.args.hello.now loop.at loop.n c.in-Some.piece.now (chunks_rest c.next.new.self)
+next c =
+    let loop = c.loop-piece in
+    let s = c.in-Some.ensures.steps in
+    next-piece c.args.c c.args.hello.now loop.at loop.n _ _ _ _ loop.invariant.0 c.requires.0 loop.invariant.2 loop.invariant.1 s.1.0 s.1.1 s.1.2
 
-pub loop-at-init : goal.loop-at-init
-loop-at-init c =
-    let args = c.args in
-    starts args.c args.hello.now
-
-pub data_end-end-requires : goal.data_end-end-requires
-data_end-end-requires c =
-    let pre = c.requires in
-    (c.loop-at.invariant.within, pre.2)
+pub loop-piece-init : goal.loop-piece-init
+loop-piece-init c =
+    let whole = c.chunks-piece-items.ensures in
+    let is = c.into_iter-piece-iterator.ensures.into_iter_gives in
+    (starts c.args.c c.args.hello.now, rw (is, whole.rest), rw (is, whole.size))
 
 pub frame_length-n-requires : goal.frame_length-n-requires
-frame_length-n-requires c =
-    let args = c.args in
-    let loop = c.loop-at in
-    let data-end = c.data_end-end in
-    let pre = c.requires in
-    (omega arith, data-small args.c args.hello.now loop.at data-end.result data-end.ensures pre.2)
+frame_length-n-requires c = (omega (arith, (next c).turn.within, c.requires.2), omega (arith, (next c).turn.within, c.requires.2))
 
 pub overflow_add-n : goal.overflow_add-n
 overflow_add-n c =
-    let pre = c.requires in
-    omega (arith, c.frame_length-n.ensures.0, next_small (frame (goal.at.overflow_add-n c).After-data_end-end) pre.0 pre.2)
+    let n = next (goal.at.overflow_add-n c).In-Some in
+    let long = c.frame_length-n.ensures.0 ∙ ap (λ bs. length (frame_at c.loop-piece.at bs)) n.is in
+    omega (arith, long, next_small n.turn c.requires.0 c.requires.2)
 
-pub loop-at-preserved : goal.loop-at-preserved
-loop-at-preserved c = rw c.frame_length-n.ensures.0 (goes_on (frame (goal.at.loop-at-preserved c).After-data_end-end))
+pub overflow_add-at : goal.overflow_add-at
+overflow_add-at c = omega (arith, (next (goal.at.overflow_add-at c).In-Some).turn.within, c.requires.2)
+
+pub loop-piece-preserved : goal.loop-piece-preserved
+loop-piece-preserved c =
+    let n = next (goal.at.loop-piece-preserved c).In-Some in
+    let long = c.frame_length-n.ensures.0 ∙ ap (λ bs. length (frame_at c.loop-piece.at bs)) n.is in
+    (rw long (goes_on n.turn), n.follows, c.in-Some.ensures.steps.0 ∙ c.loop-piece.invariant.2)
 
 pub returns : goal.returns
-returns c = ends c.loop-at.invariant c.loop-at-test.false
+returns c =
+    let l = c.loop-piece in
+    let none = c.in-None.ensures.steps.1.0 in
+    ends l.invariant.0 (omega (arith, none, ap length l.invariant.1, length-drop l.at c.args.hello.now, l.invariant.0.within))

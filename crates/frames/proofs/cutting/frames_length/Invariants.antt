@@ -1,11 +1,10 @@
 -- The loop keeps `Left`: n bytes are counted, and what is still to be cut makes the others. Assumes nothing.
-use Prim.Native.Nat.{◌-◌}
-use lib.ListN.{length}
+use mathlib.Core.Path.{◌≡◌}
+use lib.ListN.{drop}
+use Rattle.std.specs.Slice.Iter.{chunks_rest, chunks_size}
 use Rattle.frames.proofs.CutLaws.{Left}
 use Rattle.frames.proofs.cutting.frames_length.Given as goal
 
-abbrev pub invariant-loop-at : goal.invariant-loop-at
-invariant-loop-at l = Left l.c l.hello l.at l.n
-
-abbrev pub decreases-loop-at : goal.decreases-loop-at
-decreases-loop-at l = length l.hello - l.at
+abbrev pub invariant-loop-piece : goal.invariant-loop-piece
+invariant-loop-piece l =
+    Left l.c l.hello l.at l.n × (chunks_rest l.piece-iterator ≡ drop l.at l.hello) × (chunks_size l.piece-iterator ≡ l.c)

@@ -1,17 +1,9 @@
 -- `write_frames` meets its promise: all refusals come before the first store. Assumes nothing.
-use Rattle.frames.proofs.CutLaws.{refuses-small, refuses-large, refuses-hello, refuses-room, cuts}
-use native.Mathlib.Omega.{arith}
+use Rattle.frames.proofs.CutLaws.{refuses-width, refuses-hello, refuses-room, cuts}
 use Rattle.frames.proofs.cutting.write_frames.Goals as goal
 
 pub returns-then-c-lt1 : goal.returns-then-c-lt1
-returns-then-c-lt1 c =
-    let args = c.args in
-    refuses-small args.c args.hello.now args.out.now c.if-c-lt1.true
-
-pub returns-then-c : goal.returns-then-c
-returns-then-c c =
-    let args = c.args in
-    refuses-large args.c args.hello.now args.out.now c.if-c-lt1.false (omega (arith, c.if-c.true))
+returns-then-c-lt1 c = refuses-width c.args.c c.args.hello.now c.args.out.now c.then-c-lt1.either
 
 pub returns-then-hello-gt-LIMIT : goal.returns-then-hello-gt-LIMIT
 returns-then-hello-gt-LIMIT c =

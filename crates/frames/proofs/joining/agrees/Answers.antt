@@ -9,17 +9,17 @@ use Rattle.frames.proofs.joining.agrees.Goals as goal
 
 pub loop-i-init : goal.loop-i-init
 unfolding each
-loop-i-init c = (omega arith, refl)
+loop-i-init c = refl
 
 pub loop-i-preserved : goal.loop-i-preserved
 loop-i-preserved c =
     let l = c.loop-i in
     let a = c.args in
-    (omega arith, rw l.invariant.1 (each_more (agrees_at a.piece.now a.out.now a.marks.now) l.i))
+    rw l.invariant (each_more (agrees_at a.piece.now a.out.now a.marks.now) l.i)
 
 pub returns : goal.returns
 unfolding agreeing
 returns c =
     let l = c.loop-i in
     let e : l.i ≡ length c.args.piece.now = omega arith in
-    rw e at l.invariant.1
+    rw e at l.invariant

@@ -1,13 +1,8 @@
 -- `agrees` asks at each place of the piece: after i turns it has asked at the first i. Assumes nothing.
-use Prim.Native.Nat.{◌≤◌, ◌-◌}
 use mathlib.Core.Path.{◌≡◌}
-use lib.ListN.{length}
 use Rattle.frames.specs.Stream.{each}
 use Rattle.frames.specs.Buffers.{agrees_at}
 use Rattle.frames.proofs.joining.agrees.Given as goal
 
 abbrev pub invariant-loop-i : goal.invariant-loop-i
-invariant-loop-i l = (l.i ≤ length l.piece) × (l.good ≡ each (agrees_at l.piece l.out l.marks) 0 l.i)
-
-abbrev pub decreases-loop-i : goal.decreases-loop-i
-decreases-loop-i l = length l.piece - l.i
+invariant-loop-i l = l.good ≡ each (agrees_at l.piece l.out l.marks) 0 l.i

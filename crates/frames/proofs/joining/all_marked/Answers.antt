@@ -7,19 +7,19 @@ use Rattle.frames.specs.Buffers.{marked_at, marked}
 use Rattle.frames.proofs.EachLaws.{each_more}
 use Rattle.frames.proofs.joining.all_marked.Goals as goal
 
-pub loop-i-init : goal.loop-i-init
+pub loop-mark-init : goal.loop-mark-init
 unfolding each
-loop-i-init c = (omega arith, refl)
+loop-mark-init c = refl
 
-pub loop-i-preserved : goal.loop-i-preserved
-loop-i-preserved c =
-    let l = c.loop-i in
+pub loop-mark-preserved : goal.loop-mark-preserved
+loop-mark-preserved c =
+    let l = c.loop-mark in
     let marks = c.args.marks.now in
-    (omega arith, rw l.invariant.1 (each_more (marked_at marks) l.i))
+    rw l.invariant (each_more (marked_at marks) l.mark-index)
 
 pub returns : goal.returns
 unfolding marked
 returns c =
-    let l = c.loop-i in
-    let e : l.i ≡ length c.args.marks.now = omega arith in
-    rw e at l.invariant.1
+    let l = c.loop-mark in
+    let e : l.mark-index ≡ length c.args.marks.now = omega arith in
+    rw e at l.invariant

@@ -1,13 +1,8 @@
 -- `all_marked` asks at each place: after i turns it has asked at the first i. Assumes nothing.
-use Prim.Native.Nat.{◌≤◌, ◌-◌}
 use mathlib.Core.Path.{◌≡◌}
-use lib.ListN.{length}
 use Rattle.frames.specs.Stream.{each}
 use Rattle.frames.specs.Buffers.{marked_at}
 use Rattle.frames.proofs.joining.all_marked.Given as goal
 
-abbrev pub invariant-loop-i : goal.invariant-loop-i
-invariant-loop-i l = (l.i ≤ length l.marks) × (l.good ≡ each (marked_at l.marks) 0 l.i)
-
-abbrev pub decreases-loop-i : goal.decreases-loop-i
-decreases-loop-i l = length l.marks - l.i
+abbrev pub invariant-loop-mark : goal.invariant-loop-mark
+invariant-loop-mark l = l.good ≡ each (marked_at l.marks) 0 l.mark-index

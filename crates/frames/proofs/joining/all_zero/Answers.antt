@@ -7,19 +7,19 @@ use Rattle.frames.specs.Buffers.{zero_at, zeros}
 use Rattle.frames.proofs.EachLaws.{each_more}
 use Rattle.frames.proofs.joining.all_zero.Goals as goal
 
-pub loop-i-init : goal.loop-i-init
+pub loop-b-init : goal.loop-b-init
 unfolding each
-loop-i-init c = (omega arith, refl)
+loop-b-init c = refl
 
-pub loop-i-preserved : goal.loop-i-preserved
-loop-i-preserved c =
-    let l = c.loop-i in
+pub loop-b-preserved : goal.loop-b-preserved
+loop-b-preserved c =
+    let l = c.loop-b in
     let block = c.args.block.now in
-    (omega arith, rw l.invariant.1 (each_more (zero_at block) l.i))
+    rw l.invariant (each_more (zero_at block) l.b-index)
 
 pub returns : goal.returns
 unfolding zeros
 returns c =
-    let l = c.loop-i in
-    let e : l.i ≡ length c.args.block.now = omega arith in
-    rw e at l.invariant.1
+    let l = c.loop-b in
+    let e : l.b-index ≡ length c.args.block.now = omega arith in
+    rw e at l.invariant

@@ -3,41 +3,41 @@ use Prim.Native.Nat.{ℕ, ◌+◌, ◌≤◌}
 use mathlib.Core.Path.{sym, ◌∙◌}
 use lib.ListN.{length, drop, length-drop}
 use Rattle.wire.proofs.ListLaws.{part_to_end}
-use Rattle.frames.specs.declared.joining.Step.TheVariants as step
+use Rattle.std.specs.Prelude.{Ok}
 use Rattle.frames.specs.Buffers.{Stepping, Padding}
 use Rattle.frames.proofs.JoinLaws.{Laying, starts, goes_on, stops, ends-whole, ends-gap}
 use Rattle.frames.proofs.PaddingLaws.{passes_over}
 use native.Mathlib.Omega.{arith}
 use Rattle.frames.proofs.joining.join_all.Goals as goal
-use Rattle.frames.proofs.joining.join_all.Goals.{After-padding-at, In-Next}
+use Rattle.frames.proofs.joining.join_all.Goals.{After-padding-at, In-Ok}
 
-stepped : (c : In-Next) →
+stepped : (c : In-Ok) →
     let args = c.args in
     let loop = c.loop-at in
     let join-frame = c.join_frame in
-    Stepping (drop loop.at args.frames.now) loop.out loop.marks loop.end (step.Next c.in-Next.used c.in-Next.e) join-frame.new.out join-frame.new.marks
+    Stepping (drop loop.at args.frames.now) loop.out loop.marks loop.end (Ok c.in-Ok.step) join-frame.new.out join-frame.new.marks
 stepped c =
     let args = c.args in
     let loop = c.loop-at in
     let join-frame = c.join_frame in
-    rw (part_to_end args.frames.now loop.at, c.in-Next.is) at join-frame.ensures
+    rw (part_to_end args.frames.now loop.at, c.in-Ok.is) at join-frame.ensures
 
 -- the frame's bytes, and where the loop stands after it
-abbrev used : (c : In-Next) → ℕ
-used c = c.in-Next.used
+abbrev used : (c : In-Ok) → ℕ
+used c = c.in-Ok.step.used
 
-gone : (c : In-Next) →
+gone : (c : In-Ok) →
     let args = c.args in
     let loop = c.loop-at in
     let join-frame = c.join_frame in
-    Laying args.frames.now args.out.now args.marks.now join-frame.new.out join-frame.new.marks (loop.at + used c) c.in-Next.e
+    Laying args.frames.now args.out.now args.marks.now join-frame.new.out join-frame.new.marks (loop.at + used c) c.in-Ok.step.end
 gone c =
     let loop = c.loop-at in
     let loop-test = c.loop-at-test in
     let join-frame = c.join_frame in
     goes_on loop.invariant loop-test.true (stepped c) join-frame.auto.out join-frame.auto.marks
 
-within : (c : In-Next) →
+within : (c : In-Ok) →
     let args = c.args in
     let loop = c.loop-at in
     (1 ≤ used c) × (loop.at + used c ≤ length args.frames.now)
@@ -50,11 +50,11 @@ within c =
 passed : (c : After-padding-at) →
     let args = c.args in
     let loop = c.loop-at in
-    Padding c.padding-at.result (drop (loop.at + c.in-Next.used) args.frames.now)
+    Padding c.padding-at.result (drop (loop.at + c.in-Ok.step.used) args.frames.now)
 passed c =
     let args = c.args in
     let loop = c.loop-at in
-    rw (part_to_end args.frames.now (loop.at + c.in-Next.used)) at c.padding-at.ensures
+    rw (part_to_end args.frames.now (loop.at + c.in-Ok.step.used)) at c.padding-at.ensures
 
 pub loop-at-init : goal.loop-at-init
 loop-at-init c =
@@ -71,59 +71,47 @@ pub overflow_add-at : goal.overflow_add-at
 overflow_add-at c =
     let args = c.args in
     let loop = c.loop-at in
-    omega (arith, (stepped c).bounds, length-drop loop.at args.frames.now)
+    omega (arith, (stepped (goal.at.overflow_add-at c).In-Ok).bounds, length-drop loop.at args.frames.now)
 
 pub slice_bounds-padding-count : goal.slice_bounds-padding-count
-slice_bounds-padding-count c = omega (arith, within (goal.at.slice_bounds-padding-count c).In-Next)
+slice_bounds-padding-count c = omega (arith, within (goal.at.slice_bounds-padding-count c).In-Ok)
 
 pub slice_bounds-padding-start : goal.slice_bounds-padding-start
-slice_bounds-padding-start c = omega (arith, within (goal.at.slice_bounds-padding-start c).In-Next)
+slice_bounds-padding-start c = omega (arith, within (goal.at.slice_bounds-padding-start c).In-Ok)
 
 pub slice_bounds-padding-end : goal.slice_bounds-padding-end
-slice_bounds-padding-end c = omega (arith, within (goal.at.slice_bounds-padding-end c).In-Next)
+slice_bounds-padding-end c = omega (arith, within (goal.at.slice_bounds-padding-end c).In-Ok)
 
-pub overflow_add-at-then-used-eq1 : goal.overflow_add-at-then-used-eq1
-overflow_add-at-then-used-eq1 c =
-    let frame = (goal.at.overflow_add-at-then-used-eq1 c).In-Next in
+pub overflow_add-at-then-step-eq1 : goal.overflow_add-at-then-step-eq1
+overflow_add-at-then-step-eq1 c =
+    let frame = (goal.at.overflow_add-at-then-step-eq1 c).In-Ok in
     let args = frame.args in
     let loop = frame.loop-at in
     omega (arith, within frame, (passed c).within, length-drop (loop.at + used frame) args.frames.now, frame.well_formed)
 
-pub loop-at-smaller-then-used-eq1 : goal.loop-at-smaller-then-used-eq1
-loop-at-smaller-then-used-eq1 c =
-    let frame = (goal.at.loop-at-smaller-then-used-eq1 c).In-Next in
+pub loop-at-smaller-then-step-eq1 : goal.loop-at-smaller-then-step-eq1
+loop-at-smaller-then-step-eq1 c =
+    let frame = (goal.at.loop-at-smaller-then-step-eq1 c).In-Ok in
     let args = frame.args in
     let loop = frame.loop-at in
     omega (arith, within frame, (passed c).within, length-drop (loop.at + used frame) args.frames.now)
 
-pub loop-at-preserved-then-used-eq1 : goal.loop-at-preserved-then-used-eq1
-loop-at-preserved-then-used-eq1 c = passes_over (gone (goal.at.loop-at-preserved-then-used-eq1 c).In-Next) (passed c)
+pub loop-at-preserved-then-step-eq1 : goal.loop-at-preserved-then-step-eq1
+loop-at-preserved-then-step-eq1 c = passes_over (gone (goal.at.loop-at-preserved-then-step-eq1 c).In-Ok) (passed c)
 
 pub loop-at-smaller : goal.loop-at-smaller
-loop-at-smaller c = omega (arith, within (goal.at.loop-at-smaller c).In-Next)
+loop-at-smaller c = omega (arith, within (goal.at.loop-at-smaller c).In-Ok)
 
 pub loop-at-preserved : goal.loop-at-preserved
-loop-at-preserved c = gone (goal.at.loop-at-preserved c).In-Next
+loop-at-preserved c = gone (goal.at.loop-at-preserved c).In-Ok
 
-pub shape_of-out-in-Refused : goal.shape_of-out-in-Refused
-shape_of-out-in-Refused c =
-    let loop = c.loop-at in
-    let join-frame = c.join_frame in
-    join-frame.auto.out ∙ loop.invariant.long
-
-pub shape_of-marks-in-Refused : goal.shape_of-marks-in-Refused
-shape_of-marks-in-Refused c =
-    let loop = c.loop-at in
-    let join-frame = c.join_frame in
-    join-frame.auto.marks ∙ loop.invariant.wide
-
-pub returns-in-Refused : goal.returns-in-Refused
-returns-in-Refused c =
+pub returns-in-Err : goal.returns-in-Err
+returns-in-Err c =
     let args = c.args in
     let loop = c.loop-at in
     let loop-test = c.loop-at-test in
     let join-frame = c.join_frame in
-    let s = rw (part_to_end args.frames.now loop.at, c.in-Refused.is) at join-frame.ensures in
+    let s = rw (part_to_end args.frames.now loop.at, c.in-Err.is) at join-frame.ensures in
     stops loop.invariant loop-test.true s
 
 pub shape_of-out-then-all_marked : goal.shape_of-out-then-all_marked

@@ -2,7 +2,7 @@
 use Prim.Native.Nat.{ℕ}
 use mathlib.Core.Path.{sym, ap, ◌∙◌}
 use lib.ListN.{replicate}
-use Rattle.frames.proofs.RoomLaws.{within-room, no_room, joined-whole, joined-none}
+use Rattle.frames.proofs.RoomLaws.{within-room, no_room, walked-ok, walked-err}
 use native.Mathlib.Omega.{arith}
 use Rattle.frames.proofs.joining.join_onto.Goals as goal
 
@@ -11,32 +11,23 @@ returns-then-not-has_room c =
     let has_room = c.has_room in
     no_room (sym has_room.ensures ∙ c.if-not-has_room.true)
 
-pub join_all-requires : goal.join_all-requires
-join_all-requires c =
+pub join_all-walked-requires : goal.join_all-walked-requires
+join_all-walked-requires c =
     let args = c.args in
     let has_room = c.has_room in
     let if1 = c.if-not-has_room in
     let fill = c.fill in
     let fill2 = c.fill-2 in
     let within = within-room args.out.now args.marks.now (sym has_room.ensures ∙ if1.false) in
-    (omega (arith, fill.auto.out, within.0), omega (arith, fill2.auto.out, within.1), fill.ensures ∙ ap (λ (n : ℕ). replicate n 0) (sym fill.auto.out), fill2.ensures ∙ ap (λ (n : ℕ). replicate n 0) (sym fill2.auto.out))
+    (omega (arith, fill.auto.self, within.0), omega (arith, fill2.auto.self, within.1), fill.ensures.after (λ y e. e) ∙ ap (λ (n : ℕ). replicate n 0) (sym fill.auto.self), fill2.ensures.after (λ y e. e) ∙ ap (λ (n : ℕ). replicate n 0) (sym fill2.auto.self))
 
-pub returns-in-End : goal.returns-in-End
-returns-in-End c =
-    let has_room = c.has_room in
-    let if1 = c.if-not-has_room in
-    let fill = c.fill in
-    let fill2 = c.fill-2 in
-    let join-all = c.join_all in
-    joined-whole (sym has_room.ensures ∙ if1.false) fill.auto.out fill2.auto.out (rw c.in-End.is at join-all.ensures)
+pub returns-then-is_err : goal.returns-then-is_err
+returns-then-is_err c =
+    let walked = c.join_all-walked in
+    walked-err (sym c.has_room.ensures ∙ c.if-not-has_room.false) walked.result c.if-is_err.ensures.value walked.ensures
+    (walked.auto.out ∙ c.fill.auto.self) (walked.auto.marks ∙ c.fill-2.auto.self) (c.fill-then-is_err.ensures.after (λ y e. e)) (c.fill-then-is_err-2.ensures.after (λ y e. e))
 
-pub returns-in-Refused : goal.returns-in-Refused
-returns-in-Refused c =
-    let has_room = c.has_room in
-    let if1 = c.if-not-has_room in
-    let fill = c.fill in
-    let fill2 = c.fill-2 in
-    let fill3 = c.fill-in-Refused in
-    let fill4 = c.fill-in-Refused-2 in
-    let joined = c.join_all in
-    joined-none (sym has_room.ensures ∙ if1.false) (rw c.in-Refused.is at joined.ensures) (joined.auto.out ∙ fill.auto.out) (joined.auto.marks ∙ fill2.auto.out) fill3.ensures fill4.ensures
+pub returns-else-is_err : goal.returns-else-is_err
+returns-else-is_err c =
+    let walked = c.join_all-walked in
+    walked-ok (sym c.has_room.ensures ∙ c.if-not-has_room.false) walked.result c.if-is_err.ensures.value c.fill.auto.self c.fill-2.auto.self walked.ensures

@@ -1,18 +1,37 @@
--- Block by block as long as each is all zero, then byte by byte. Assumes nothing.
-use Prim.Native.Nat.{◌+◌, ◌-◌}
-use mathlib.Core.Path.{◌≡◌, sym, ◌∙◌}
+-- Block by block as long as each is all zero, then to the first byte that is not. Assumes nothing.
+use Prim.Native.Nat.{zero-le}
+use mathlib.Core.Path.{sym, ◌∙◌}
 use native.Mathlib.Omega.{arith}
-use Rattle.frames.proofs.PaddingLaws.{padding-more, padding-one}
+use Rattle.wire.proofs.ListLaws.{part_to_end}
+use Rattle.frames.proofs.PaddingLaws.{next-block, to-other}
 use Rattle.frames.proofs.joining.padding.Goals as goal
 
-pub loop-at-preserved : goal.loop-at-preserved
-loop-at-preserved c =
-    let loop = c.loop-at in
-    let input = c.args.input.now in
-    let w : loop.at + 16 - loop.at ≡ 16 = omega arith in
-    padding-more loop.at 16 input loop.invariant (omega arith) (rw w at (sym c.all_zero.ensures ∙ c.if-all_zero.true))
+pub loop-block-init : goal.loop-block-init
+loop-block-init c =
+    let whole = c.chunks_exact-block-items.ensures in
+    let is = c.into_iter-block-iterator.ensures.into_iter_gives in
+    (record { within = zero-le; zero = λ i h. absurd (omega arith) }, rw (is, whole.rest), rw (is, whole.size))
 
-pub loop-at-2-preserved : goal.loop-at-2-preserved
-loop-at-2-preserved c =
-    let loop = c.loop-at-2 in
-    padding-one loop.at c.args.input.now loop.invariant (omega arith) (omega arith)
+pub loop-block-preserved : goal.loop-block-preserved
+loop-block-preserved c =
+    let l = c.loop-block in
+    let s = c.in-Some.ensures.steps in
+    let size = s.0 in
+    let n = next-block l.at c.args.input.now _ _ _ l.invariant.0 l.invariant.1 s.1.0 (s.1.1 ∙ l.invariant.2) (sym c.if-not-all_zero.ensures) in
+    (n.0, n.1, size ∙ l.invariant.2)
+
+pub overflow_add-at : goal.overflow_add-at
+overflow_add-at c =
+    let l = c.loop-block in
+    let s = c.in-Some.ensures.steps in
+    let n = next-block l.at c.args.input.now _ _ _ l.invariant.0 l.invariant.1 s.1.0 (s.1.1 ∙ l.invariant.2) (sym c.if-not-all_zero.ensures) in
+    omega (arith, n.0.within, c.well_formed)
+
+pub slice_bounds-first_other-count : goal.slice_bounds-first_other-count
+slice_bounds-first_other-count c = c.loop-block.invariant.0.within
+
+pub returns : goal.returns
+returns c =
+    let l = c.loop-block in
+    let found = rw part_to_end at c.first_other.ensures in
+    to-other l.at c.args.input.now c.unwrap_or.result l.invariant.0 (rw found at c.unwrap_or.ensures)

@@ -29,4 +29,4 @@ returns c =
     let if3 = c.if-not-agrees in
     let put-bytes = c.put_bytes in
     let n = length start.args.piece.now in
-    laid (start.args.offset + n - start.args.offset) (omega arith) (omega (arith, if1.false, if2.false)) (sym agrees.ensures ∙ if3.false) start.requires.0 start.requires.1 _ _ put-bytes.ensures.output c.fill.ensures
+    laid (start.args.offset + n - start.args.offset) (omega arith) (omega (arith, if1.false, if2.false)) (sym agrees.ensures ∙ if3.false) start.requires.0 start.requires.1 _ _ put-bytes.ensures.output (c.fill.ensures.after (λ y e. e))

@@ -1,13 +1,7 @@
 -- `reassemble_crypto` leaves the place out. Assumes nothing.
-use Rattle.frames.proofs.RoomLaws.{joins-end, joins-refused}
+use borrow.Author.Rules.{rules}
+use Rattle.frames.proofs.RoomLaws.{joins}
 use Rattle.frames.proofs.joining.reassemble_crypto.Goals as goal
 
-pub returns-in-End : goal.returns-in-End
-returns-in-End c =
-    let join-onto = c.join_onto in
-    joins-end (rw c.in-End.is at join-onto.ensures)
-
-pub returns-in-Refused : goal.returns-in-Refused
-returns-in-Refused c =
-    let join-onto = c.join_onto in
-    joins-refused (rw c.in-Refused.is at join-onto.ensures)
+pub returns : goal.returns
+returns c = joins c.join_onto.result c.map_err.result c.join_onto.ensures (search rules)

@@ -3,39 +3,39 @@ use Prim.Native.Nat.{◌+◌, ◌≤◌}
 use lib.ListN.{length, drop}
 use Rattle.wire.proofs.ListLaws.{part_to_end}
 use Rattle.varint.specs.Varint.{Found}
-use Rattle.varint.specs.declared.Got.TheVariants as got
+use Rattle.std.specs.Prelude.{Ok}
 use Rattle.frames.proofs.ReadLaws.{no-offset, no_length, within-offset, within-length, no_body, whole}
 use native.Mathlib.Omega.{arith}
 use Rattle.frames.proofs.reading.read_crypto.Goals as goal
-use Rattle.frames.proofs.reading.read_crypto.Goals.{In-Value, In-Value-read}
+use Rattle.frames.proofs.reading.read_crypto.Goals.{In-Ok, In-Ok-read}
 
-offset-found : (c : In-Value) →
+offset-found : (c : In-Ok) →
     let args = c.args in
-    Found (drop 1 args.input.now) (got.Value c.in-Value.offset)
+    Found (drop 1 args.input.now) (Ok c.in-Ok.offset)
 offset-found c =
     let args = c.args in
-    rw (part_to_end args.input.now 1, c.in-Value.is) at c.read.ensures
+    rw (part_to_end args.input.now 1, c.in-Ok.is) at c.read.ensures
 
-offset-within : (c : In-Value) →
+offset-within : (c : In-Ok) →
     let args = c.args in
-    1 + c.in-Value.offset.width ≤ length args.input.now
+    1 + c.in-Ok.offset.width ≤ length args.input.now
 offset-within c =
     let start = c in
     within-offset start.args.input.now _ (offset-found c) start.requires
 
-length_found : (c : In-Value-read) →
+length_found : (c : In-Ok-read) →
     let args = c.args in
-    Found (drop (1 + c.in-Value.offset.width) args.input.now) (got.Value c.in-Value-read.length)
+    Found (drop (1 + c.in-Ok.offset.width) args.input.now) (Ok c.in-Ok-read.length)
 length_found c =
     let args = c.args in
-    rw (part_to_end args.input.now (1 + c.in-Value.offset.width), c.in-Value-read.is) at c.read-2.ensures
+    rw (part_to_end args.input.now (1 + c.in-Ok.offset.width), c.in-Ok-read.is) at c.read-2.ensures
 
-length-within : (c : In-Value-read) →
+length-within : (c : In-Ok-read) →
     let args = c.args in
-    1 + c.in-Value.offset.width + c.in-Value-read.length.width ≤ length args.input.now
+    1 + c.in-Ok.offset.width + c.in-Ok-read.length.width ≤ length args.input.now
 length-within c =
     let args = c.args in
-    let found = rw (part_to_end args.input.now 1, c.in-Value.is) at c.read.ensures in
+    let found = rw (part_to_end args.input.now 1, c.in-Ok.is) at c.read.ensures in
     within-length args.input.now _ found _ (length_found c) c.requires
 
 pub returns-in_default : goal.returns-in_default
@@ -44,40 +44,40 @@ returns-in_default c =
     no-offset args.input.now _ (rw (part_to_end args.input.now 1, c.in_default.is) at c.read.ensures)
 
 pub overflow_add-a : goal.overflow_add-a
-overflow_add-a c = omega (arith, offset-within (goal.at.overflow_add-a c).In-Value)
+overflow_add-a c = omega (arith, offset-within (goal.at.overflow_add-a c).In-Ok)
 
 pub slice_bounds-read-count-2 : goal.slice_bounds-read-count-2
-slice_bounds-read-count-2 c = offset-within (goal.at.slice_bounds-read-count-2 c).In-Value
+slice_bounds-read-count-2 c = offset-within (goal.at.slice_bounds-read-count-2 c).In-Ok
 
 pub slice_bounds-read-start-2 : goal.slice_bounds-read-start-2
-slice_bounds-read-start-2 c = omega (arith, offset-within (goal.at.slice_bounds-read-start-2 c).In-Value)
+slice_bounds-read-start-2 c = omega (arith, offset-within (goal.at.slice_bounds-read-start-2 c).In-Ok)
 
 pub returns-in_default-read : goal.returns-in_default-read
 returns-in_default-read c =
     let args = c.args in
-    let earlier = (goal.at.returns-in_default-read c).In-Value in
-    let f = rw (part_to_end args.input.now (1 + c.in-Value.offset.width), c.in_default-read.is) at c.read-2.ensures in
+    let earlier = (goal.at.returns-in_default-read c).In-Ok in
+    let f = rw (part_to_end args.input.now (1 + c.in-Ok.offset.width), c.in_default-read.is) at c.read-2.ensures in
     no_length args.input.now _ (offset-found earlier) _ f
 
 pub overflow_add-start : goal.overflow_add-start
-overflow_add-start c = omega (arith, length-within (goal.at.overflow_add-start c).In-Value-read)
+overflow_add-start c = omega (arith, length-within (goal.at.overflow_add-start c).In-Ok-read)
 
 pub overflow_sub-input : goal.overflow_sub-input
-overflow_sub-input c = omega (arith, length-within (goal.at.overflow_sub-input c).In-Value-read)
+overflow_sub-input c = omega (arith, length-within (goal.at.overflow_sub-input c).In-Ok-read)
 
 pub returns-then-input-start : goal.returns-then-input-start
 returns-then-input-start c =
     let args = c.args in
-    let earlier = (goal.at.returns-then-input-start c).In-Value in
-    no_body args.input.now _ (offset-found earlier) _ (length_found (goal.at.returns-then-input-start c).In-Value-read) (omega (arith, c.if-input-start.true))
+    let earlier = (goal.at.returns-then-input-start c).In-Ok in
+    no_body args.input.now _ (offset-found earlier) _ (length_found (goal.at.returns-then-input-start c).In-Ok-read) (omega (arith, c.if-input-start.true))
 
 pub overflow_add-end : goal.overflow_add-end
 overflow_add-end c =
-    let earlier = (goal.at.overflow_add-end c).In-Value-read in
+    let earlier = (goal.at.overflow_add-end c).In-Ok-read in
     omega (arith, c.if-input-start.false, length-within earlier)
 
 pub returns : goal.returns
 returns c =
     let start = c in
-    let earlier = (goal.at.returns c).In-Value in
-    whole start.args.input.now _ (offset-found earlier) _ (length_found (goal.at.returns c).In-Value-read) start.requires (omega (arith, c.if-input-start.false))
+    let earlier = (goal.at.returns c).In-Ok in
+    whole start.args.input.now _ (offset-found earlier) _ (length_found (goal.at.returns c).In-Ok-read) start.requires (omega (arith, c.if-input-start.false))

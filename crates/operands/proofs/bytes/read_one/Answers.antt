@@ -3,6 +3,4 @@ use native.Mathlib.Omega.{arith}
 use Rattle.operands.proofs.bytes.read_one.Goals as goal
 
 pub returns-in-Bytes : goal.returns-in-Bytes
-returns-in-Bytes g c =
-    let read-piece = c.read_piece in
-    omega (arith, rw c.in-Bytes.is at read-piece.ensures.within)
+returns-in-Bytes g c = omega (arith, rw (c.in_ok-n.was, c.in-Bytes.is) at c.read_piece.ensures.within)

@@ -4,8 +4,8 @@ use mathlib.Core.Path.{◌≡◌}
 use lib.ListN.{length}
 use Rattle.operands.proofs.bytes.read_operand.Given as goal
 
-abbrev pub invariant-loop-fault : goal.invariant-loop-fault
-invariant-loop-fault g l = (l.at ≤ length l.text) × (l.n ≤ length l.out) × (length l.out ≡ length l.initial.out)
+abbrev pub invariant-loop-n : goal.invariant-loop-n
+invariant-loop-n g l = (l.at ≤ length l.text) × (l.n ≤ length l.out) × (length l.out ≡ length l.initial.out)
 
-abbrev pub decreases-loop-fault : goal.decreases-loop-fault
-decreases-loop-fault g l = length l.text - l.at
+abbrev pub decreases-loop-n : goal.decreases-loop-n
+decreases-loop-n g l = length l.text - l.at

@@ -6,6 +6,6 @@ use Rattle.profiles.proofs.built_in.for_browser.Goals as goal
 pub returns : goal.returns
 unfolding for_browser chrome_profile firefox_profile curl_profile
 returns c =
-    let start = c in
-    let groups = c in
-    chosen_of start.args.browser start.requires groups.extension_types.ensures groups.groups.ensures c.key_share_groups.ensures c.parameters.ensures
+    let number = c.number-row.ensures in
+    rw number.0
+    (chosen_of _ (rw number.0 at number.1) c.extension_types.ensures c.groups.ensures c.key_share_groups.ensures c.parameters.ensures)

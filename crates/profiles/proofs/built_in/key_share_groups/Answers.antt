@@ -1,4 +1,5 @@
 -- The table's rows are those of the three profiles, by computation. Assumes nothing.
+use mathlib.Core.Path.{ap, ◌∙◌}
 use mathlib.Core.List.{[]}
 use Rattle.profiles.specs.Profile.{chrome_profile, firefox_profile, curl_profile, for_browser}
 use Rattle.profiles.specs.Rows.{share_row}
@@ -7,4 +8,4 @@ use Rattle.profiles.proofs.built_in.key_share_groups.Goals as goal
 
 pub returns : goal.returns
 unfolding for_browser chrome_profile firefox_profile curl_profile
-returns c = row_of_lem share_row [] _ c.requires
+returns c = row_of_lem share_row [] _ c.number.ensures.1 ∙ ap share_row c.number.ensures.0

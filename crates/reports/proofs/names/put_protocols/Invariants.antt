@@ -1,5 +1,5 @@
 -- `reports::names::put_protocols` meets its contract: the label and the names before place i stand in the output. Assumes nothing.
-use Prim.Native.Nat.{◌-◌, ℕ}
+use Prim.Native.Nat.{ℕ}
 use Rattle.reports.specs.Lines.{alpn_label, each}
 use mathlib.Core.List.{List}
 use lib.ListN.{take}
@@ -13,6 +13,3 @@ parts h spans i = each (span_parts h) (take i spans)
 
 abbrev pub invariant-loop-i : goal.invariant-loop-i
 invariant-loop-i l = Listed alpn_label (parts l.hello l.spans) l.count l.initial.at l.initial.out l.at l.out l.i
-
-abbrev pub decreases-loop-i : goal.decreases-loop-i
-decreases-loop-i l = l.count - l.i

@@ -1,7 +1,8 @@
 -- `reports::names::put_sni` meets its contract: the parts are those of the case that the name is. Assumes nothing.
 use mathlib.Core.Path.{refl, sym, ap, subst}
 use mathlib.Core.List.{[], ◌∷◌}
-use Rattle.fingerprint.specs.declared.Sni.{Sni}
+use Rattle.std.specs.Prelude.{Option}
+use Rattle.fingerprint_lists.specs.declared.Span.{Span}
 use Rattle.script_writing.proofs.AnswerLaws.{all-as, written_one, written-more}
 use Rattle.reports.specs.Lines.{name_label, none_word}
 use Rattle.fingerprint.specs.InRange.{SniInside}
@@ -9,26 +10,26 @@ use Rattle.reports.specs.Code.{span_parts, sni_parts}
 use Rattle.reports.proofs.names.put_sni.Goals as goal
 
 pub put_range-requires : goal.put_range-requires
-put_range-requires c = subst (λ (x : Sni). SniInside c.args.hello.now x) c.in-At.is c.requires
+put_range-requires c = subst (λ (x : Option Span). SniInside c.args.hello.now x) c.in-Some.is c.requires
 
-pub returns-in-At : goal.returns-in-At
-returns-in-At c =
+pub returns-in-Some : goal.returns-in-Some
+returns-in-Some c =
     let h = c.args.hello.now in
     let out = c.args.out.now in
-    let s = c.in-At.span in
+    let s = c.in-Some.span in
     let label = c.put_text-n in
     let range = c.put_range in
-    all-as (name_label ∷ span_parts h s) (name_label ∷ sni_parts h c.args.sni) _ out _ (ap (λ (x : Sni). name_label ∷ sni_parts h x) (sym c.in-At.is))
+    all-as (name_label ∷ span_parts h s) (name_label ∷ sni_parts h c.args.sni) _ out _ (ap (λ (x : Option Span). name_label ∷ sni_parts h x) (sym c.in-Some.is))
     (written-more (name_label ∷ []) (span_parts h s) label.result range.result _ out label.new.out range.new.out
     (written_one name_label label.result out label.new.out label.ensures) refl range.ensures)
 
-pub returns-in-Absent : goal.returns-in-Absent
-returns-in-Absent c =
+pub returns-in-None : goal.returns-in-None
+returns-in-None c =
     let h = c.args.hello.now in
     let out = c.args.out.now in
     let label = c.put_text-n in
     let word = c.put_text in
-    all-as (name_label ∷ none_word ∷ []) (name_label ∷ sni_parts h c.args.sni) _ out _ (ap (λ (x : Sni). name_label ∷ sni_parts h x) (sym c.in-Absent.is))
+    all-as (name_label ∷ none_word ∷ []) (name_label ∷ sni_parts h c.args.sni) _ out _ (ap (λ (x : Option Span). name_label ∷ sni_parts h x) (sym c.in-None.is))
     (written-more (name_label ∷ []) (none_word ∷ []) label.result word.result _ out label.new.out word.new.out
     (written_one name_label label.result out label.new.out label.ensures) refl
     (written_one none_word word.result _ word.new.out word.ensures))

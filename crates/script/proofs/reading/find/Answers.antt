@@ -1,26 +1,28 @@
--- `script::reading::find` meets its contract: the place so far and the distance from there make the place of the first such byte. Assumes nothing.
-use Rattle.std.proofs.Common.{arith}
-use Rattle.script.proofs.ScanLaws.{distance-here, distance_next, distance-end, found}
+-- `find` meets its contract: past the end there is nothing to search, and else the distance is that from the place. Assumes nothing.
+use Rattle.std.proofs.Common.{◌≡◌, ℕ, List, ◌==◌, drop, sym, ap, ◌∙◌, arith, length-drop}
+use Rattle.std.specs.Prelude.{position}
+use Rattle.wire.proofs.ListLaws.{part_to_end}
+use Rattle.script.proofs.ScanLaws.{distance-end, position-some, position-none, found}
 use Rattle.script.proofs.reading.find.Goals as goal
+use Rattle.script.proofs.reading.find.Goals.{After-place_of}
 
-pub returns-then-s-i : goal.returns-then-s-i
-returns-then-s-i c =
-    let start = c in
-    let loop = c.loop-i in
-    found start.args.s.now start.args.from start.args.byte loop.i
-    (omega (arith, distance-here start.args.byte start.args.s.now loop.i c.loop-i-test.true c.if-s-i.true))
+-- what is searched: the bytes from the place on
+searched : (c : After-place_of) → c.place_of.result ≡ position (λ x. x == c.args.byte) (drop c.args.from c.args.s.now)
+searched c = c.place_of.ensures ∙ ap (λ (t : List ℕ). position (λ x. x == c.args.byte) t) (part_to_end c.args.s.now c.args.from)
 
-pub loop-i-preserved : goal.loop-i-preserved
-loop-i-preserved c =
-    let start = c in
-    omega (
-      arith,
-      distance_next start.args.byte start.args.s.now c.loop-i.i
-          c.loop-i-test.true c.if-s-i.false,
-    )
+pub returns-then-s-from : goal.returns-then-s-from
+returns-then-s-from c =
+    let args = c.args in
+    found args.s.now args.from args.byte args.from (omega (arith, distance-end args.byte args.s.now args.from c.if-s-from.true))
 
-pub returns : goal.returns
-returns c =
-    let start = c in
-    found start.args.s.now start.args.from start.args.byte c.loop-i.i
-    (omega (arith, distance-end start.args.byte start.args.s.now c.loop-i.i c.loop-i-test.false))
+pub returns-in-Some : goal.returns-in-Some
+returns-in-Some c =
+    let args = c.args in
+    let e = position-some args.byte (drop args.from args.s.now) c.in-Some.n (sym c.in-Some.is ∙ searched (goal.at.returns-in-Some c).After-place_of) in
+    found args.s.now args.from args.byte _ (omega (arith, e.0))
+
+pub returns-in-None : goal.returns-in-None
+returns-in-None c =
+    let args = c.args in
+    let e = position-none args.byte (drop args.from args.s.now) (sym c.in-None.is ∙ searched (goal.at.returns-in-None c).After-place_of) in
+    found args.s.now args.from args.byte _ (omega (arith, e, length-drop args.from args.s.now))

@@ -10,20 +10,20 @@ slice_bounds-read_number-end c =
     let start = c in
     sym (length-take-le start.args.star start.args.text.now (omega (arith, start.requires)))
 
-pub returns-in-Value : goal.returns-in-Value
-returns-in-Value c =
+pub returns-in-Some : goal.returns-in-Some
+returns-in-Some c =
     let start = c in
     let s = start.args.text.now in
     let k = start.args.star in
-    let n = c.in-Value.n in
+    let n = c.in-Some.n in
     read_as (times_of n (take (length s - (k + 1)) (drop (k + 1) s))) (run_of s k) c.read_times.result
     start.args.out.now c.read_times.new.out
     (ap (λ (x : List ℕ). times_of n x) (part_to_end s (k + 1)) ∙ run_is s k n
-    (sym c.in-Value.is ∙ c.read_number-count.ensures))
+    (sym c.in-Some.is ∙ c.read_number.ensures))
     c.read_times.ensures
 
-pub returns-in-Malformed : goal.returns-in-Malformed
-returns-in-Malformed c =
+pub returns-in-None : goal.returns-in-None
+returns-in-None c =
     let start = c in
     read-malformed (run_of start.args.text.now start.args.star) start.args.out.now
-    (run-other start.args.text.now start.args.star (sym c.in-Malformed.is ∙ c.read_number-count.ensures))
+    (run-other start.args.text.now start.args.star (sym c.in-None.is ∙ c.read_number.ensures))

@@ -1,4 +1,4 @@
--- `script_writing::bytes::put_hex` meets its contract: the digits of the bytes passed stand at the front of the output. Assumes nothing.
+-- `put_hex` meets its contract: the digits of the bytes passed stand at the front of the output. Assumes nothing.
 use Prim.Native.Nat.{ℕ, ◌*◌}
 use mathlib.Core.Path.{◌≡◌, refl, sym, ap, ◌∙◌}
 use mathlib.Core.List.{List}
@@ -12,36 +12,32 @@ use Rattle.script_writing.proofs.HexLaws.{length-hex_text, hex_text-more}
 use Rattle.script_writing.proofs.ShownLaws.{written, not_written}
 use Rattle.script_writing.proofs.bytes.put_hex.Goals as goal
 
-pub returns-then-out-n : goal.returns-then-out-n
-returns-then-out-n c =
-    let start = c in
-    not_written (hex_text start.args.bytes.now) start.args.out.now (omega (arith, length-hex_text start.args.bytes.now))
+pub returns-then-out-bytes : goal.returns-then-out-bytes
+returns-then-out-bytes c =
+    not_written (hex_text c.args.bytes.now) c.args.out.now (omega (arith, length-hex_text c.args.bytes.now))
 
-pub loop-i-init : goal.loop-i-init
+pub loop-b-init : goal.loop-b-init
 unfolding hex_text
-loop-i-init c = (omega arith, refl, front-none _, refl)
+loop-b-init c = (refl, front-none _, refl)
 
-pub loop-i-preserved : goal.loop-i-preserved
-loop-i-preserved c =
-    let start = c in
-    let l = c.loop-i in
-    let s = start.args.bytes.now in
+pub loop-b-preserved : goal.loop-b-preserved
+loop-b-preserved c =
+    let l = c.loop-b in
+    let s = c.args.bytes.now in
     let w = c.put_pair in
-    let long : length (hex_text (take l.i s)) ≡ l.at =
-    length-hex_text (take l.i s) ∙ ap (λ (k : ℕ). 2 * k) (length-take-le l.i s (omega arith)) ∙ sym l.invariant.1 in
-    let one = lent-front (hex_text (take l.i s)) (hex_pair (get_or s l.i 0)) start.args.out.now l.out w.new.out l.at _ long
-    l.invariant.2 refl w.ensures in (
+    let long : length (hex_text (take l.b-index s)) ≡ l.at =
+    length-hex_text (take l.b-index s) ∙ ap (λ (k : ℕ). 2 * k) (length-take-le l.b-index s (omega arith)) ∙ sym l.invariant.0 in
+    let one = lent-front (hex_text (take l.b-index s)) (hex_pair (get_or s l.b-index 0)) c.args.out.now l.out w.new.out l.at _ long
+    l.invariant.1 refl w.ensures in (
       omega arith,
-      omega arith,
-      one ∙ ap (λ (t : List ℕ). front t start.args.out.now) (sym (hex_text-more l.i s (omega arith))),
+      one ∙ ap (λ (t : List ℕ). front t c.args.out.now) (sym (hex_text-more l.b-index s (omega arith))),
       omega arith,
     )
 
 pub returns : goal.returns
 returns c =
-    let start = c in
-    let s = start.args.bytes.now in
-    let l = c.loop-i in
-    let e : l.i ≡ length s = omega arith in
-    written (hex_text s) l.at start.args.out.now l.out (omega (arith, length-hex_text s)) (omega (arith, length-hex_text s))
-    (l.invariant.2 ∙ rw (e, take-length))
+    let s = c.args.bytes.now in
+    let l = c.loop-b in
+    let e : l.b-index ≡ length s = omega arith in
+    written (hex_text s) l.at c.args.out.now l.out (omega (arith, length-hex_text s)) (omega (arith, length-hex_text s))
+    (l.invariant.1 ∙ rw (e, take-length))

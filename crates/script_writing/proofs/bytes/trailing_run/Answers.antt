@@ -1,48 +1,18 @@
--- `script_writing::bytes::trailing_run` meets its contract: the bytes passed from the end, and the equal ones that follow them, make the whole run. Assumes nothing.
+-- `trailing_run` meets its contract: what equals the last byte is counted from the end. Assumes nothing.
 use Prim.Native.Nat.{◌-◌, zero-le}
-use mathlib.Core.Path.{refl}
+use mathlib.Core.Path.{◌≡◌, ◌∙◌}
 use native.Mathlib.Omega.{arith}
 use lib.ListN.{length, get_or}
-use Rattle.script_writing.proofs.ShownLaws.{run_none, run-start, run_more, run-stop, run_end}
+use borrow.Author.Rules.{rules}
+use Rattle.script_writing.proofs.ShownLaws.{run_none, run_is, run-within}
 use Rattle.script_writing.proofs.bytes.trailing_run.Goals as goal
 
-pub returns-then-n-eq0 : goal.returns-then-n-eq0
-returns-then-n-eq0 c = (run_none c.args.bytes.now c.if-n-eq0.true, zero-le)
+pub returns-in-Some : goal.returns-in-Some
+returns-in-Some c =
+    let s = c.args.bytes.now in
+    let last : c.in-Some.field-0.now ≡ get_or s (length s - 1) 0 = search rules in
+    let e = c.equal_end.ensures ∙ run_is s c.in-Some.field-0.now last in
+    (e, omega (arith, e, run-within s))
 
-pub loop-k-init : goal.loop-k-init
-loop-k-init c =
-    let start = c in
-    (zero-le, run-start start.args.bytes.now _ refl)
-
-pub returns-then-bytes-n : goal.returns-then-bytes-n
-returns-then-bytes-n c =
-    let start = c in
-    let loop = c.loop-k in (
-      omega (arith, loop.invariant.1, run-stop start.args.bytes.now _ loop.k c.loop-k-test.true c.if-bytes-n.true),
-      omega arith,
-    )
-
-pub loop-k-preserved : goal.loop-k-preserved
-loop-k-preserved c =
-    let start = c in
-    let loop = c.loop-k in (
-      omega arith,
-      omega (
-        arith,
-        loop.invariant.1,
-        run_more start.args.bytes.now _ loop.k c.loop-k-test.true
-            c.if-bytes-n.false,
-      ),
-    )
-
-pub returns : goal.returns
-returns c =
-    let start = c in (
-      omega (
-        arith,
-        c.loop-k.invariant.1,
-        run_end start.args.bytes.now
-            (get_or start.args.bytes.now (length start.args.bytes.now - 1) 0) c.loop-k.k c.loop-k-test.false,
-      ),
-      omega arith,
-    )
+pub returns-in-None : goal.returns-in-None
+returns-in-None c = (run_none c.args.bytes.now (omega (arith, c.in-None.ensures.item)), zero-le)

@@ -1,19 +1,18 @@
--- `script_writing::numbers::decimal_width` meets its contract: the turns so far and the digits of what is left make the digits of the whole number. Assumes nothing.
+-- `decimal_width` meets its contract: a number has one digit more than its logarithm. Assumes nothing.
+use Prim.Native.Nat.{◌+◌, ◌≤◌}
+use mathlib.Core.Path.{sym}
 use native.Mathlib.Omega.{arith}
-use borrow.Author.Rules.{rules}
 use Rattle.script_writing.specs.Decimal.{decimal_width}
-use Rattle.script_writing.proofs.DigitLaws.{count-start, count_next, count-end}
+use Rattle.script_writing.proofs.DigitLaws.{places-log, places-small}
 use Rattle.script_writing.proofs.numbers.decimal_width.Goals as goal
 
-pub loop-rest-init : goal.loop-rest-init
-loop-rest-init c = count-start 10 19 c.args.n (search rules)
-
-pub overflow_add-k : goal.overflow_add-k
-overflow_add-k c = omega (arith, c.loop-rest.invariant.few)
-
-pub loop-rest-preserved : goal.loop-rest-preserved
-loop-rest-preserved c = count_next 10 20 c.args.n c.loop-rest.rest c.loop-rest.k (omega arith) c.loop-rest.invariant c.loop-rest-test.true
-
-pub returns : goal.returns
+pub returns-in-Some : goal.returns-in-Some
 unfolding decimal_width
-returns c = (count-end 10 20 c.args.n c.loop-rest.rest c.loop-rest.k c.loop-rest.invariant c.loop-rest-test.false, c.loop-rest.invariant.few)
+returns-in-Some c =
+    let log = c.in-Some.ensures in
+    let few : c.in-Some.k + 1 ≤ 20 = omega (arith, log.bound) in
+    (places-log 10 20 c.args.n c.in-Some.k (omega arith) few log.power_le log.next_power_gt, few)
+
+pub returns-in-None : goal.returns-in-None
+unfolding decimal_width
+returns-in-None c = (sym (places-small 10 19 c.args.n (omega (arith, c.in-None.ensures.none))), omega arith)

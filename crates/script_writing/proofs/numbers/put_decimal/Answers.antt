@@ -7,7 +7,7 @@ use Rattle.wire.specs.Front.{front}
 use Rattle.wire.proofs.FrontLaws.{front-none}
 use lib.Seq.{length-take-le}
 use Rattle.script_writing.specs.Decimal.{decimal_digits, decimal_text}
-use Rattle.script_writing.proofs.DigitLaws.{length-decimal_digits, length-decimal_text, filled-after}
+use Rattle.script_writing.proofs.DigitLaws.{length-decimal_digits, length-decimal_text, digits-decimal, filled-after}
 use Rattle.script_writing.proofs.ShownLaws.{written, not_written}
 use Rattle.script_writing.proofs.numbers.put_decimal.Goals as goal
 
@@ -31,6 +31,6 @@ returns c =
     let width = c.decimal_width-width in
     let digits = c.fill_digits in
     let w = width.result in
-    let stands = filled-after (λ n. decimal_digits n v) (λ n. length-decimal_digits n v) [] old old digits.new.part 0 w refl (omega arith) (front-none old) digits.ensures in
+    let stands = filled-after (λ n. decimal_digits n v) (λ n. length-decimal_digits n v) [] old old digits.new.part 0 w refl (omega arith) (front-none old) (digits.ensures ∙ digits-decimal _ v) in
     written (decimal_text v) w old _ (omega (arith, length-decimal_text v, width.ensures.0, if1.false)) (omega (arith, length-decimal_text v, width.ensures.0))
     (stands ∙ ap (λ (k : ℕ). front (decimal_digits k v) old) width.ensures.0)

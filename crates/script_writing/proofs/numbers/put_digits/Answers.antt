@@ -16,12 +16,13 @@ returns-then-out-width c =
     not_written (space ∷ hex_digits args.width args.v) args.out.now (omega (arith, length-hex_digits args.width args.v))
 
 pub returns : goal.returns
+unfolding hex_digits
 returns c =
     let old = c.args.out.now in
     let w = c.args.width in
     let v = c.args.v in
     let first = c.w8 in
-    let digits = c.fill_hex in
+    let digits = c.fill_digits in
     let k : w + 1 - 1 ≡ w = omega arith in
     let stands = filled-after (λ n. hex_digits n v) (λ n. length-hex_digits n v) (space ∷ []) old first.new.out digits.new.part 1 (w + 1 - 1) refl (omega (arith, c.if-out-width.false)) first.ensures digits.ensures in
     written (space ∷ hex_digits w v) (w + 1) old _ (omega (arith, length-hex_digits w v)) (omega (arith, length-hex_digits w v))

@@ -13,7 +13,7 @@ pub returns : goal.returns
 returns c =
     let args = c.args in
     let h = args.hello.now in
-    c.column.ensures
+    c.row_of.ensures.follows
     ∙ elim c.if-c-eq-MSG_TYPE.branch [
       | then-c-eq-MSG_TYPE+else-hello-at-ne1 w ↦ due-hello h args.c w.if-c-eq-MSG_TYPE.true w.if-hello-at-ne1.false
       | else-c-eq-MSG_TYPE w ↦ due-other h args.c w.if-c-eq-MSG_TYPE.false

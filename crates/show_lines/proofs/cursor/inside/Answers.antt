@@ -29,7 +29,7 @@ pub returns : goal.returns
 returns c =
     let args = c.args in
     let h = args.hello.now in
-    c.column.ensures
+    c.row_of.ensures.inside
     ∙ elim c.if-c-eq-SUITES.branch [
       | then-c-eq-SUITES+else-hello-line w ↦ inside-whole h args.c args.line w.if-c-eq-SUITES.true w.if-hello-line.false
       | else-c-eq-SUITES w ↦ inside-other h args.c args.line c.if-c-eq-EXTENSION.false w.if-c-eq-SUITES.false

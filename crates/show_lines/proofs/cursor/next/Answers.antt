@@ -1,11 +1,12 @@
 -- What stands inside, or what follows, as in `next`. Assumes nothing.
 use native.Mathlib.Omega.{arith}
-use mathlib.Core.Path.{◌∙◌, sym}
+use mathlib.Core.Path.{◌∙◌, sym, ap}
 use lib.ListN.{length}
+use Rattle.show_lines.specs.Rows.{form_number}
 use Rattle.show_lines.proofs.PartLaws.{part-within}
-use Rattle.show_lines.proofs.CodeLaws.{next-inside, next-cut, next-plain}
+use Rattle.show_lines.proofs.CodeLaws.{no-opens, next-inside, next-cut, next-plain}
 use Rattle.show_lines.proofs.cursor.next.Goals as goal
-use Rattle.show_lines.proofs.cursor.next.Goals.{then-column-eq-OPENS+else-line-gt0, else-column-eq-OPENS}
+use Rattle.show_lines.proofs.cursor.next.Goals.{in_default-via-in-Opens+else-line-gt0, in_default-via-in_default}
 
 pub inside-requires : goal.inside-requires
 inside-requires c =
@@ -14,30 +15,23 @@ inside-requires c =
     let end = part-within (length start.args.hello.now) start.args.c pre.1 in
     (omega (arith, pre.4.within, end), pre.4.front, c.if-line-gt0.true, pre.3)
 
-pub returns-then-line-gt0 : goal.returns-then-line-gt0
-returns-then-line-gt0 c =
-    let at-inside = c in
-    let at-end = at-inside in
-    let test = at-end in
-    let form = test in
-    let start = form in
-    let args = start.args in
-    let to =
-    rw (c.opened.ensures, at-inside.inside.ensures, at-inside.inner_end-end.ensures, at-end.part_end.ensures)
-    at c.settle.ensures in
-    next-inside args.hello.now args.c args.line start.requires.1 start.requires.4
-    (sym form.column.ensures ∙ test.if-column-eq-OPENS.true) test.if-line-gt0.true _ to
+pub returns-in-Opens : goal.returns-in-Opens
+returns-in-Opens c =
+    let args = c.args in
+    let to = rw (c.opened.ensures, c.inside.ensures, c.inner_end-end.ensures, c.part_end.ensures) at c.settle.ensures in
+    next-inside args.hello.now args.c args.line c.requires.1 c.requires.4
+    (sym c.row_of.ensures.form ∙ ap form_number c.in-Opens.is) c.if-line-gt0.true _ to
 
-pub returns : goal.returns
-returns c =
-    let start = c in
-    let args = start.args in
-    let pre = start.requires in
+pub returns-in_default : goal.returns-in_default
+returns-in_default c =
+    let args = c.args in
+    let pre = c.requires in
     let h = args.hello.now in
-    let form = c.column.ensures in
-    let to = rw c.due.ensures at c.settle-2.ensures in
-    elim c.if-column-eq-OPENS.branch [
-      | then-column-eq-OPENS+else-line-gt0 w ↦
-          next-cut h args.c args.line pre.1 pre.4 (sym form ∙ w.if-column-eq-OPENS.true) w.if-line-gt0.false _ to
-      | else-column-eq-OPENS w ↦ next-plain h args.c args.line pre.1 pre.4 (λ q. w.if-column-eq-OPENS.false (form ∙ q)) _ to
+    let form = c.row_of.ensures.form in
+    let to = rw c.due-what.ensures at c.settle-in_default.ensures in
+    elim c.in_default.branch [
+      | in_default-via-in-Opens+else-line-gt0 w ↦
+          next-cut h args.c args.line pre.1 pre.4 (sym form ∙ ap form_number w.in-Opens.is) w.if-line-gt0.false _ to
+      | in_default-via-in_default w ↦
+          next-plain h args.c args.line pre.1 pre.4 (λ q. no-opens c.row_of.result.form w.in_default.not-Opens (form ∙ q)) _ to
     ]

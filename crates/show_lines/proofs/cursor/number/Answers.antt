@@ -9,18 +9,23 @@ use Rattle.show_lines.proofs.cursor.number.Goals as goal
 pub returns-then-n-eq1 : goal.returns-then-n-eq1
 returns-then-n-eq1 c =
     let s = c.args.bytes.now in
-    (c.wide.ensures.0 ∙ one_byte s c.if-n-eq1.true, omega (arith, c.wide.ensures.1))
+    (c.from.ensures ∙ one_byte s c.if-n-eq1.true, omega (arith, c.from.ensures, (c.type_inv.bytes 0).fits))
 
 pub returns-then-n-eq2 : goal.returns-then-n-eq2
 returns-then-n-eq2 c =
     let s = c.args.bytes.now in
-    (c.be16.ensures ∙ two_bytes s c.if-n-eq2.true, search rules)
+    let is = c.from-then-n-eq2.ensures in
+    (is ∙ c.be16.ensures ∙ two_bytes s c.if-n-eq2.true, omega (arith, is, c.be16.type_inv))
 
 pub returns-then-n-eq3 : goal.returns-then-n-eq3
 returns-then-n-eq3 c =
     let s = c.args.bytes.now in
-    let low = rw (part_to_end s 1) at c.be16-then-n-eq3.ensures in
-    (rw (c.wide-then-n-eq3.ensures.0, low) (three-bytes s c.if-n-eq3.true), search rules)
+    let high = c.from-then-n-eq3.ensures in
+    let low = c.from-then-n-eq3-2.ensures in
+    let two = rw (part_to_end s 1) at c.be16-then-n-eq3.ensures in (
+      rw (high, low, two) (three-bytes s c.if-n-eq3.true),
+      omega (arith, high, low, (c.type_inv.bytes 0).fits, c.be16-then-n-eq3.type_inv),
+    )
 
 pub returns : goal.returns
 returns c =

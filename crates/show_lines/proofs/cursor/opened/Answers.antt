@@ -1,27 +1,27 @@
 -- The choice by part. Assumes nothing.
-use native.Mathlib.Omega.{arith}
-use mathlib.Core.Path.{sym, ◌∙◌}
+use mathlib.Core.Path.{sym, ap, ◌∙◌}
 use Rattle.show_lines.specs.Lines.{opened}
-use Rattle.show_lines.proofs.PartLaws.{no_part, in-suites, in_block, in_body, in_list, in-none}
+use Rattle.show_lines.specs.Rows.{part_number}
+use Rattle.show_lines.proofs.PartLaws.{hello_part, in-suites, in_block, in_body, in_list, in-none}
 use Rattle.show_lines.proofs.cursor.opened.Goals as goal
 
-pub returns-in-1 : goal.returns-in-1
+pub returns-in-Suites : goal.returns-in-Suites
 unfolding opened
-returns-in-1 c = sym (in-suites _ _ _ _ _ _ (sym c.column.ensures ∙ c.in-1.is))
+returns-in-Suites c = sym (in-suites _ _ _ _ _ _ (sym c.row_of.ensures.part ∙ ap part_number c.in-Suites.is))
 
-pub returns-in-2 : goal.returns-in-2
+pub returns-in-Block : goal.returns-in-Block
 unfolding opened
-returns-in-2 c = sym (in_block _ _ _ _ _ _ (sym c.column.ensures ∙ c.in-2.is))
+returns-in-Block c = sym (in_block _ _ _ _ _ _ (sym c.row_of.ensures.part ∙ ap part_number c.in-Block.is))
 
-pub returns-in-3 : goal.returns-in-3
+pub returns-in-Body : goal.returns-in-Body
 unfolding opened
-returns-in-3 c = sym (in_body _ _ _ _ _ _ (sym c.column.ensures ∙ c.in-3.is))
+returns-in-Body c = sym (in_body _ _ _ _ _ _ (sym c.row_of.ensures.part ∙ ap part_number c.in-Body.is))
 
-pub returns-in-4 : goal.returns-in-4
+pub returns-in-List : goal.returns-in-List
 unfolding opened
-returns-in-4 c = sym (in_list _ _ _ _ _ _ (sym c.column.ensures ∙ c.in-4.is))
+returns-in-List c = sym (in_list _ _ _ _ _ _ (sym c.row_of.ensures.part ∙ ap part_number c.in-List.is))
 
-pub returns-in_default : goal.returns-in_default
+pub returns-in-Hello : goal.returns-in-Hello
 unfolding opened
-returns-in_default c =
-    sym (in-none _ _ _ _ _ _ (no_part _ _ c.column.ensures (omega arith) (omega arith) (omega arith) (omega arith)))
+returns-in-Hello c =
+    sym (in-none _ _ _ _ _ _ (hello_part (sym c.row_of.ensures.part ∙ ap part_number c.in-Hello.is)))

@@ -4,22 +4,22 @@ use mathlib.Core.Path.{◌∙◌}
 use lib.ListN.{drop}
 use Rattle.wire.proofs.ListLaws.{part_to_end}
 use Rattle.varint.specs.Varint.{Found}
-use Rattle.varint.specs.declared.Got.TheVariants as got
+use Rattle.std.specs.Prelude.{Ok}
 use Rattle.fingerprint_parameters.proofs.OneParameter.{head-within}
 use Rattle.show_lines.proofs.CodeLaws.{no-id, no_length, whole-front}
 use borrow.Author.Rules.{rules}
 use Rattle.show_lines.proofs.cursor.parameter.Goals as goal
-use Rattle.show_lines.proofs.cursor.parameter.Goals.{In-Value, In-Value-read}
+use Rattle.show_lines.proofs.cursor.parameter.Goals.{In-Ok, In-Ok-read}
 
-id-found : (c : In-Value) → Found c.args.rest.now (got.Value c.in-Value.id)
-id-found c = rw c.in-Value.is at c.read.ensures
+id-found : (c : In-Ok) → Found c.args.rest.now (Ok c.in-Ok.id)
+id-found c = rw c.in-Ok.is at c.read.ensures
 
-length_found : (c : In-Value-read) →
+length_found : (c : In-Ok-read) →
     let args = c.args in
-    Found (drop c.in-Value.id.width args.rest.now) (got.Value c.in-Value-read.length)
+    Found (drop c.in-Ok.id.width args.rest.now) (Ok c.in-Ok-read.length)
 length_found c =
     let args = c.args in
-    rw (part_to_end args.rest.now c.in-Value.id.width, c.in-Value-read.is) at c.read-2.ensures
+    rw (part_to_end args.rest.now c.in-Ok.id.width, c.in-Ok-read.is) at c.read-2.ensures
 
 pub returns-in_default : goal.returns-in_default
 returns-in_default c =
@@ -36,24 +36,24 @@ pub returns-in_default-read : goal.returns-in_default-read
 returns-in_default-read c =
     let args = c.args in
     let s = args.rest.now in
-    let f = rw (part_to_end s c.in-Value.id.width, c.in_default-read.is) at c.read-2.ensures in
-    no_length args.at s _ (id-found (goal.at.returns-in_default-read c).In-Value) _ f
+    let f = rw (part_to_end s c.in-Ok.id.width, c.in_default-read.is) at c.read-2.ensures in
+    no_length args.at s _ (id-found (goal.at.returns-in_default-read c).In-Ok) _ f
 
 pub overflow_add-w : goal.overflow_add-w
 overflow_add-w c =
-    let at-id = (goal.at.overflow_add-w c).In-Value in
-    let at_length = (goal.at.overflow_add-w c).In-Value-read in
+    let at-id = (goal.at.overflow_add-w c).In-Ok in
+    let at_length = (goal.at.overflow_add-w c).In-Ok-read in
     omega (arith, head-within c.args.rest.now _ (id-found at-id) _ (length_found at_length))
 
 pub vector-requires : goal.vector-requires
 vector-requires c =
-    let at-id = (goal.at.vector-requires c).In-Value in
-    let at_length = (goal.at.vector-requires c).In-Value-read in
+    let at-id = (goal.at.vector-requires c).In-Ok in
+    let at_length = (goal.at.vector-requires c).In-Ok-read in
     (head-within c.args.rest.now _ (id-found at-id) _ (length_found at_length), search rules)
 
 pub returns : goal.returns
 returns c =
     let args = c.args in
-    let at-id = (goal.at.returns c).In-Value in
-    let at_length = (goal.at.returns c).In-Value-read in
+    let at-id = (goal.at.returns c).In-Ok in
+    let at_length = (goal.at.returns c).In-Ok-read in
     c.vector.ensures ∙ whole-front args.at args.rest.now _ (id-found at-id) _ (length_found at_length)

@@ -1,167 +1,140 @@
 -- In each branch the type settles which extension the definition has, and the branch's writer gives that one. Assumes nothing.
-use mathlib.Core.Path.{◌≡◌, sym, ◌∙◌}
+use mathlib.Core.Path.{◌≡◌}
 use native.Mathlib.Omega.{arith}
-use borrow.Author.Tests.{eqb-true}
+use Rattle.profiles.specs.Code.{profile_of}
 use Rattle.tls_extensions.specs.Extensions.{ext_encrypted_client_hello}
 use Rattle.tls_extensions.proofs.LengthLaws.{length-server-name, length-encrypted-client-hello}
 use Rattle.tls.specs.Hello.{build_extension}
-use Rattle.tls.proofs.BuildLaws.{undrawn-puts, undrawn-room}
+use Rattle.tls.proofs.BuildLaws.{undrawn-puts, undrawn-room, build-fixed}
 use Rattle.tls.proofs.building.build_extension.Goals as goal
-use Rattle.tls.proofs.building.build_extension.Goals.{Then-is, Then-is-2, Then-is-3, Then-is-4, Then-is-5, Then-is-6, Then-is-7, Then-is-8, Then-is-9}
-
-is-server-name : (c : Then-is) → c.args.t.0 ≡ 0
-is-server-name c = eqb-true _ 0 (sym c.is.ensures ∙ c.if-is.true)
 
 pub ext_server_name-requires : goal.ext_server_name-requires
 unfolding build_extension
 ext_server_name-requires c =
-    let start = c in
-    let room = rw (is-server-name (goal.at.ext_server_name-requires c).Then-is) at start.requires.has in
-    (undrawn-room (length-server-name start.args.name.now) room, omega (arith, start.requires.short_name))
+    let e : c.args.t.0 ≡ 0 = omega arith in
+    let room = rw e at c.requires.has in
+    (undrawn-room (length-server-name c.args.name.now) room, omega (arith, c.requires.short_name))
 
-pub returns-then-is : goal.returns-then-is
+pub returns-in-SERVER_NAME : goal.returns-in-SERVER_NAME
 unfolding build_extension
-returns-then-is c = rw (is-server-name (goal.at.returns-then-is c).Then-is) (undrawn-puts c.ext_server_name.ensures c.still.ensures)
-
-is-alpn : (c : Then-is-2) → c.args.t.0 ≡ 16
-is-alpn c = eqb-true _ 16 (sym c.is-2.ensures ∙ c.if-is-2.true)
+returns-in-SERVER_NAME c =
+    let e : c.args.t.0 ≡ 0 = omega arith in
+    rw e (undrawn-puts c.ext_server_name.ensures c.still.ensures)
 
 pub protocols-requires : goal.protocols-requires
 unfolding build_extension
 protocols-requires c =
-    let start = c in
-    let room = rw (is-alpn (goal.at.protocols-requires c).Then-is-2) at start.requires.has in
+    let e : c.args.t.0 ≡ 16 = omega arith in
+    let room = rw e at c.requires.has in
     room.fits
 
-pub returns-then-is-2 : goal.returns-then-is-2
+pub returns-in-ALPN : goal.returns-in-ALPN
 unfolding build_extension
-returns-then-is-2 c = rw (is-alpn (goal.at.returns-then-is-2 c).Then-is-2) (undrawn-puts c.protocols.ensures c.still-then-is-2.ensures)
-
-is-groups : (c : Then-is-3) → c.args.t.0 ≡ 10
-is-groups c = eqb-true _ 10 (sym c.is-3.ensures ∙ c.if-is-3.true)
+returns-in-ALPN c =
+    let e : c.args.t.0 ≡ 16 = omega arith in
+    rw e (undrawn-puts c.protocols.ensures c.still-in-ALPN.ensures)
 
 pub groups-requires : goal.groups-requires
 unfolding build_extension
 groups-requires c =
-    let start = c in
-    let room = rw (is-groups (goal.at.groups-requires c).Then-is-3) at start.requires.has in
-    (start.requires.sound, room.fits)
+    let e : c.args.t.0 ≡ 10 = omega arith in
+    let room = rw e at c.requires.has in
+    (c.requires.sound, room.fits)
 
-pub returns-then-is-3 : goal.returns-then-is-3
+pub returns-in-SUPPORTED_GROUPS : goal.returns-in-SUPPORTED_GROUPS
 unfolding build_extension
-returns-then-is-3 c = rw (is-groups (goal.at.returns-then-is-3 c).Then-is-3) (undrawn-puts c.groups.ensures c.still-then-is-3.ensures)
-
-is-algorithms : (c : Then-is-4) → c.args.t.0 ≡ 13
-is-algorithms c = eqb-true _ 13 (sym c.is-4.ensures ∙ c.if-is-4.true)
+returns-in-SUPPORTED_GROUPS c =
+    let e : c.args.t.0 ≡ 10 = omega arith in
+    rw e (undrawn-puts c.groups.ensures c.still-in-SUPPORTED_GROUPS.ensures)
 
 pub algorithms-requires : goal.algorithms-requires
 unfolding build_extension
 algorithms-requires c =
-    let start = c in
-    let room = rw (is-algorithms (goal.at.algorithms-requires c).Then-is-4) at start.requires.has in
-    (start.requires.sound, room.fits)
+    let e : c.args.t.0 ≡ 13 = omega arith in
+    let room = rw e at c.requires.has in
+    (c.requires.sound, room.fits)
 
-pub returns-then-is-4 : goal.returns-then-is-4
+pub returns-in-SIGNATURE_ALGORITHMS : goal.returns-in-SIGNATURE_ALGORITHMS
 unfolding build_extension
-returns-then-is-4 c = rw (is-algorithms (goal.at.returns-then-is-4 c).Then-is-4) (undrawn-puts c.algorithms.ensures c.still-then-is-4.ensures)
-
-is-versions : (c : Then-is-5) → c.args.t.0 ≡ 43
-is-versions c = eqb-true _ 43 (sym c.is-5.ensures ∙ c.if-is-5.true)
+returns-in-SIGNATURE_ALGORITHMS c =
+    let e : c.args.t.0 ≡ 13 = omega arith in
+    rw e (undrawn-puts c.algorithms.ensures c.still-in-SIGNATURE_ALGORITHMS.ensures)
 
 pub versions-requires : goal.versions-requires
 unfolding build_extension
 versions-requires c =
-    let start = c in
-    let room = rw (is-versions (goal.at.versions-requires c).Then-is-5) at start.requires.has in
-    (start.requires.sound, room.fits)
+    let e : c.args.t.0 ≡ 43 = omega arith in
+    let room = rw e at c.requires.has in
+    (c.requires.sound, room.fits)
 
-pub returns-then-is-5 : goal.returns-then-is-5
+pub returns-in-SUPPORTED_VERSIONS : goal.returns-in-SUPPORTED_VERSIONS
 unfolding build_extension
-returns-then-is-5 c = rw (is-versions (goal.at.returns-then-is-5 c).Then-is-5) (undrawn-puts c.versions.ensures c.still-then-is-5.ensures)
-
-is-key-share : (c : Then-is-6) → c.args.t.0 ≡ 51
-is-key-share c = eqb-true _ 51 (sym c.is-6.ensures ∙ c.if-is-6.true)
+returns-in-SUPPORTED_VERSIONS c =
+    let e : c.args.t.0 ≡ 43 = omega arith in
+    rw e (undrawn-puts c.versions.ensures c.still-in-SUPPORTED_VERSIONS.ensures)
 
 pub key_shares-requires : goal.key_shares-requires
 unfolding build_extension
 key_shares-requires c =
-    let start = c in
-    let room = rw (is-key-share (goal.at.key_shares-requires c).Then-is-6) at start.requires.has in
-    (start.requires.sound, room)
+    let e : c.args.t.0 ≡ 51 = omega arith in
+    let room = rw e at c.requires.has in
+    (c.requires.sound, room)
 
-pub returns-then-is-6 : goal.returns-then-is-6
+pub returns-in-KEY_SHARE : goal.returns-in-KEY_SHARE
 unfolding build_extension
-returns-then-is-6 c = rw (is-key-share (goal.at.returns-then-is-6 c).Then-is-6) c.key_shares.ensures
-
-is-quic-tp : (c : Then-is-7) → c.args.t.0 ≡ 57
-is-quic-tp c = eqb-true _ 57 (sym c.is-7.ensures ∙ c.if-is-7.true)
+returns-in-KEY_SHARE c =
+    let e : c.args.t.0 ≡ 51 = omega arith in
+    rw e c.key_shares.ensures
 
 pub parameters-requires : goal.parameters-requires
 unfolding build_extension
 parameters-requires c =
-    let start = c in
-    let room = rw (is-quic-tp (goal.at.parameters-requires c).Then-is-7) at start.requires.has in
-    (start.requires.sound, start.requires.short_id, room)
+    let e : c.args.t.0 ≡ 57 = omega arith in
+    let room = rw e at c.requires.has in
+    (c.requires.sound, c.requires.short_id, room)
 
-pub returns-then-is-7 : goal.returns-then-is-7
+pub returns-in-QUIC_TRANSPORT_PARAMS : goal.returns-in-QUIC_TRANSPORT_PARAMS
 unfolding build_extension
-returns-then-is-7 c = rw (is-quic-tp (goal.at.returns-then-is-7 c).Then-is-7) c.parameters.ensures
-
-is-compress-cert : (c : Then-is-8) → c.args.t.0 ≡ 27
-is-compress-cert c = eqb-true _ 27 (sym c.is-8.ensures ∙ c.if-is-8.true)
+returns-in-QUIC_TRANSPORT_PARAMS c =
+    let e : c.args.t.0 ≡ 57 = omega arith in
+    rw e c.parameters.ensures
 
 pub ext_compress_cert-requires : goal.ext_compress_cert-requires
 unfolding build_extension
 ext_compress_cert-requires c =
-    let start = c in
-    let room = rw (is-compress-cert (goal.at.ext_compress_cert-requires c).Then-is-8) at start.requires.has in
+    let e : c.args.t.0 ≡ 27 = omega arith in
+    let room = rw e at c.requires.has in
     room.fits
 
-pub returns-then-is-8 : goal.returns-then-is-8
+pub returns-in-COMPRESS_CERTIFICATE : goal.returns-in-COMPRESS_CERTIFICATE
 unfolding build_extension
-returns-then-is-8 c = rw (is-compress-cert (goal.at.returns-then-is-8 c).Then-is-8) (undrawn-puts c.ext_compress_cert.ensures c.still-then-is-8.ensures)
-
-is-ech : (c : Then-is-9) → c.args.t.0 ≡ 65037
-is-ech c = eqb-true _ 65037 (sym c.is-9.ensures ∙ c.if-is-9.true)
+returns-in-COMPRESS_CERTIFICATE c =
+    let e : c.args.t.0 ≡ 27 = omega arith in
+    rw e (undrawn-puts c.ext_compress_cert.ensures c.still-in-COMPRESS_CERTIFICATE.ensures)
 
 pub ext_encrypted_client_hello-requires : goal.ext_encrypted_client_hello-requires
 unfolding build_extension ext_encrypted_client_hello
 ext_encrypted_client_hello-requires c =
-    let start = c in
-    let room = rw (is-ech (goal.at.ext_encrypted_client_hello-requires c).Then-is-9) at start.requires.has in
-    (omega (arith, room.fits, length-encrypted-client-hello start.args.tape.now start.args.at), room.there)
+    let e : c.args.t.0 ≡ 65037 = omega arith in
+    let room = rw e at c.requires.has in
+    (omega (arith, room.fits, length-encrypted-client-hello c.args.tape.now c.args.at), room.there)
 
-pub returns-then-is-9 : goal.returns-then-is-9
+pub returns-in-ENCRYPTED_CLIENT_HELLO : goal.returns-in-ENCRYPTED_CLIENT_HELLO
 unfolding build_extension
-returns-then-is-9 c = rw (is-ech (goal.at.returns-then-is-9 c).Then-is-9) c.ext_encrypted_client_hello.ensures
+returns-in-ENCRYPTED_CLIENT_HELLO c =
+    let e : c.args.t.0 ≡ 65037 = omega arith in
+    rw e c.ext_encrypted_client_hello.ensures
 
-pub build_fixed-requires : goal.build_fixed-requires
-unfolding build_extension
-build_fixed-requires c =
-    (rw (
-      sym c.is.ensures ∙ c.if-is.false,
-      sym c.is-2.ensures ∙ c.if-is-2.false,
-      sym c.is-3.ensures ∙ c.if-is-3.false,
-      sym c.is-4.ensures ∙ c.if-is-4.false,
-      sym c.is-5.ensures ∙ c.if-is-5.false,
-      sym c.is-6.ensures ∙ c.if-is-6.false,
-      sym c.is-7.ensures ∙ c.if-is-7.false,
-      sym c.is-8.ensures ∙ c.if-is-8.false,
-      sym c.is-9.ensures ∙ c.if-is-9.false,
-    ) at c.requires.has).fits
+pub ext_fixed-requires : goal.ext_fixed-requires
+ext_fixed-requires c =
+    let args = c.args in
+    let room = rw (build-fixed (profile_of args.profile) args.name.now args.scid.now args.tape.now args.t.0 args.at
+    (omega arith) (omega arith) (omega arith) (omega arith) (omega arith) (omega arith) (omega arith) (omega arith) (omega arith)) at c.requires.has in
+    room.fits
 
-pub returns : goal.returns
-unfolding build_extension
-returns c =
-    rw (
-      sym c.is.ensures ∙ c.if-is.false,
-      sym c.is-2.ensures ∙ c.if-is-2.false,
-      sym c.is-3.ensures ∙ c.if-is-3.false,
-      sym c.is-4.ensures ∙ c.if-is-4.false,
-      sym c.is-5.ensures ∙ c.if-is-5.false,
-      sym c.is-6.ensures ∙ c.if-is-6.false,
-      sym c.is-7.ensures ∙ c.if-is-7.false,
-      sym c.is-8.ensures ∙ c.if-is-8.false,
-      sym c.is-9.ensures ∙ c.if-is-9.false,
-    )
-    (undrawn-puts c.build_fixed.ensures c.still-2.ensures)
+pub returns-in_default : goal.returns-in_default
+returns-in_default c =
+    let args = c.args in
+    rw (build-fixed (profile_of args.profile) args.name.now args.scid.now args.tape.now args.t.0 args.at
+    (omega arith) (omega arith) (omega arith) (omega arith) (omega arith) (omega arith) (omega arith) (omega arith) (omega arith))
+    (undrawn-puts c.ext_fixed.ensures c.still-in_default.ensures)

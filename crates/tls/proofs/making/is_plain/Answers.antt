@@ -1,4 +1,4 @@
--- The loop keeps: `plain` is the test of the bytes before place i. Assumes nothing.
+-- The loop keeps: `plain` is the test of the bytes before the next one. Assumes nothing.
 use mathlib.Core.Path.{ap, ◌∙◌}
 use lib.Seq.{take_all}
 use Rattle.tls.specs.Make
@@ -6,18 +6,15 @@ use Rattle.tls.proofs.NameLaws.{plain-none, plain_more}
 use native.Mathlib.Omega.{arith}
 use Rattle.tls.proofs.making.is_plain.Goals as goal
 
-pub loop-i-init : goal.loop-i-init
-loop-i-init c = (omega arith, plain-none)
+pub loop-b-init : goal.loop-b-init
+loop-b-init c = plain-none
 
-pub loop-i-preserved : goal.loop-i-preserved
-loop-i-preserved c =
-    let args = c.args in
-    let loop-test = c.loop-i-test in
-    let name = args.name.now in
-    let loop = c.loop-i in
-    (omega arith, rw loop.invariant.1 (plain_more name loop.i loop-test.true))
+pub loop-b-preserved : goal.loop-b-preserved
+loop-b-preserved c =
+    let loop = c.loop-b in
+    rw loop.invariant (plain_more c.args.name.now loop.b-index c.loop-b-test.true)
 
 pub returns : goal.returns
 returns c =
-    let loop = c.loop-i in
-    loop.invariant.1 ∙ ap Make.plain (take_all loop.i _ (omega arith))
+    let loop = c.loop-b in
+    loop.invariant ∙ ap Make.plain (take_all loop.b-index _ (omega arith))

@@ -1,12 +1,8 @@
--- The loop keeps: `plain` is the test of the bytes before place i. Assumes nothing.
-use Prim.Native.Nat.{◌-◌, ◌≤◌}
+-- The loop keeps: `plain` is the test of the bytes before the next one. Assumes nothing.
 use mathlib.Core.Path.{◌≡◌}
-use lib.ListN.{length, take}
+use lib.ListN.{take}
 use Rattle.tls.specs.Make
 use Rattle.tls.proofs.making.is_plain.Given as goal
 
-abbrev pub invariant-loop-i : goal.invariant-loop-i
-invariant-loop-i l = (l.i ≤ length l.name) × (l.plain ≡ Make.plain (take l.i l.name))
-
-abbrev pub decreases-loop-i : goal.decreases-loop-i
-decreases-loop-i l = length l.name - l.i
+abbrev pub invariant-loop-b : goal.invariant-loop-b
+invariant-loop-b l = l.plain ≡ Make.plain (take l.b-index l.name)

@@ -1,56 +1,51 @@
 -- All refusals come before the first store; when no question is answered "no" the hello has room. Assumes nothing.
+use mathlib.Core.Path.{sym}
 use lib.ListN.{length}
+use Rattle.std.proofs.lemmas.Result.{err_from_is_err_and}
 use Rattle.profiles.specs.Code.{profile_of}
 use Rattle.tls.specs.Writing.{HelloRoom}
+use Rattle.tls.proofs.NameLaws.{named}
 use Rattle.tls.proofs.Sizes.{suffices, hello-fits}
-use Rattle.tls.proofs.MakeLaws.{named-as, hello-room, refuses-name, refuses-room, makes-hello}
+use Rattle.tls.proofs.MakeLaws.{hello-room, refuses-name, refuses-room, makes-hello}
 use native.Mathlib.Omega.{arith}
 use Rattle.tls.proofs.making.make_with.Goals as goal
-use Rattle.tls.proofs.making.make_with.Goals.{After-put_hello-arg-1}
+use Rattle.tls.proofs.making.make_with.Goals.{In_ok-ask_room}
+
+pub returns-in_err-ask_name : goal.returns-in_err-ask_name
+returns-in_err-ask_name c =
+    let args = c.args in
+    let p = err_from_is_err_and c.from_residual.result c.from_residual.ensures.1 in
+    rw (p.1, p.2)
+    (refuses-name (profile_of args.profile) args.name.now args.scid.now args.tape.now args.out.now _ (sym c.in_err-ask_name.ensures))
+
+pub ask_room-requires : goal.ask_room-requires
+ask_room-requires c = (c.requires, omega (arith, (named c.args.name.now (sym c.in_ok-ask_name.ensures)).short))
+
+pub returns-in_err-ask_room : goal.returns-in_err-ask_room
+returns-in_err-ask_room c =
+    let args = c.args in
+    let p = err_from_is_err_and c.from_residual-in_err-ask_room.result c.from_residual-in_err-ask_room.ensures.1 in
+    rw (p.1, p.2)
+    (refuses-room (profile_of args.profile) args.name.now args.scid.now args.tape.now args.out.now (sym c.in_ok-ask_name.ensures) _ (sym c.in_err-ask_room.ensures))
 
 -- no question was answered "no"
 room :
-    (c : After-put_hello-arg-1) →
+    (c : In_ok-ask_room) →
     let args = c.args in
     HelloRoom args.profile args.name.now args.scid.now args.tape.now (length args.out.now)
 room c =
-    let name-refusal = c.name_refusal-bad_name in
-    let if1 = c.if-bad_name-ne0 in
-    let room-refusal = c.room_refusal-no_room in
-    let start = c in
-    let args = start.args in
+    let args = c.args in
+    let p = profile_of args.profile in
     let name = args.name.now in
     let scid = args.scid.now in
     let tape = args.tape.now in
-    let p = profile_of args.profile in
-    hello-room args.profile name scid tape start.requires name-refusal.ensures if1.false room-refusal.ensures c.if-no_room-ne0.false (suffices p name scid tape) (hello-fits p name scid tape)
+    hello-room args.profile name scid tape c.requires (sym c.in_ok-ask_name.ensures) (sym c.in_ok-ask_room.ensures) (suffices p name scid tape) (hello-fits p name scid tape)
 
-pub returns-then-bad_name-ne0 : goal.returns-then-bad_name-ne0
-returns-then-bad_name-ne0 c =
-    let args = c.args in
-    refuses-name (profile_of args.profile) args.name.now args.scid.now args.tape.now args.out.now c.name_refusal-bad_name.ensures c.if-bad_name-ne0.true
-
-pub room_refusal-no_room-requires : goal.room_refusal-no_room-requires
-room_refusal-no_room-requires c =
-    let start = c in
-    (start.requires, omega (arith, (named-as start.args.name.now c.name_refusal-bad_name.ensures c.if-bad_name-ne0.false).short))
-
-pub returns-then-no_room-ne0 : goal.returns-then-no_room-ne0
-returns-then-no_room-ne0 c =
-    let name-refusal = c.name_refusal-bad_name in
-    let if1 = c.if-bad_name-ne0 in
-    let args = c.args in
-    refuses-room (profile_of args.profile) args.name.now args.scid.now args.tape.now args.out.now name-refusal.ensures if1.false c.room_refusal-no_room.ensures c.if-no_room-ne0.true
-
-pub put_hello-w-requires : goal.put_hello-w-requires
-put_hello-w-requires c = room c
+pub put_hello-made-requires : goal.put_hello-made-requires
+put_hello-made-requires c = room (goal.at.put_hello-made-requires c).In_ok-ask_room
 
 pub returns : goal.returns
 returns c =
-    let name-refusal = c.name_refusal-bad_name in
-    let if1 = c.if-bad_name-ne0 in
-    let room-refusal = c.room_refusal-no_room in
-    let if2 = c.if-no_room-ne0 in
-    let put-hello = c.put_hello-w in
     let args = c.args in
-    makes-hello (profile_of args.profile) args.name.now args.scid.now args.tape.now args.out.now name-refusal.ensures if1.false room-refusal.ensures if2.false (room (goal.at.returns c).After-put_hello-arg-1).has put-hello.ensures
+    makes-hello (profile_of args.profile) args.name.now args.scid.now args.tape.now args.out.now (sym c.in_ok-ask_name.ensures) (sym c.in_ok-ask_room.ensures)
+    (room (goal.at.returns c).In_ok-ask_room).has c.put_hello-made.ensures

@@ -1,6 +1,6 @@
 -- Version and random, session id, suites, each to the part after the last. Assumes nothing.
 use Prim.Native.Nat.{◌+◌, ◌≤◌}
-use native.Mathlib.Nat.{sub-zero}
+use mathlib.Core.Path.{sym}
 use mathlib.Core.List.{◌++◌}
 use lib.ListN.{length}
 use lib.Seq.{length-take-le}
@@ -82,14 +82,16 @@ pub slice_bounds-put_suites-start : goal.slice_bounds-put_suites-start
 slice_bounds-put_suites-start c = place-within (session c)
 
 pub slice_bounds-put_suites-end-2 : goal.slice_bounds-put_suites-end-2
-slice_bounds-put_suites-end-2 c = few (goal.at.slice_bounds-put_suites-end-2 c).Start
+slice_bounds-put_suites-end-2 c =
+    let start = (goal.at.slice_bounds-put_suites-end-2 c).Start in
+    sym (length-take-le start.args.profile.suite_count start.args.profile.cipher_suites (few start))
 
 pub put_suites-requires : goal.put_suites-requires
 put_suites-requires c =
     let start = (goal.at.put_suites-requires c).Start in
     let p = start.args.profile in
     let suites = (profile_of p).cipher_suites in
-    rw (sub-zero p.suite_count) (last-room (closing suites) (session (goal.at.put_suites-requires c).After-slice_known-3-1) (length-closing suites), omega (arith, at-most-16 start))
+    (last-room (closing suites) (session (goal.at.put_suites-requires c).After-slice_known-3-1) (length-closing suites), omega (arith, at-most-16 start))
 
 pub overflow_add-result : goal.overflow_add-result
 overflow_add-result c =
@@ -97,11 +99,11 @@ overflow_add-result c =
     let session-length = c.session_length-s in
     let start = (goal.at.overflow_add-result c).Start in
     let p = start.args.profile in
-    let put = rw (sub-zero p.suite_count) at put-suites.ensures in
+    let put = put-suites.ensures in
     omega (arith, session-length.ensures.1, put.count, length-closing (profile_of p).cipher_suites, at-most-16 start)
 
 pub returns : goal.returns
 returns c =
     let put-suites = c.put_suites in
     let p = c.args.profile in
-    last_written (closing (profile_of p).cipher_suites) (session (goal.at.returns c).After-slice_known-3-1) (rw (sub-zero p.suite_count) at put-suites.ensures)
+    last_written (closing (profile_of p).cipher_suites) (session (goal.at.returns c).After-slice_known-3-1) put-suites.ensures

@@ -1,9 +1,0 @@
--- `script_writing::numbers::decimal_width` meets its contract: the turns so far and the digits of what is left make the digits of the whole number. Assumes nothing.
-use Rattle.script_writing.proofs.DigitLaws.{Counted}
-use Rattle.script_writing.proofs.numbers.decimal_width.Given as goal
-
-abbrev pub invariant-loop-rest : goal.invariant-loop-rest
-invariant-loop-rest l = Counted 10 20 l.n l.rest l.k
-
-abbrev pub decreases-loop-rest : goal.decreases-loop-rest
-decreases-loop-rest l = l.rest

@@ -1,9 +1,0 @@
--- The constant is the body that the definition computes to. Assumes nothing.
-use Rattle.wire.specs.Numbers.{digits}
-use Rattle.wire.specs.Vectors.{vector}
-use Rattle.tls_extensions.specs.Extensions.{ext_psk_ke_modes}
-use Rattle.tls_extensions.proofs.ext_psk_ke_modes.Goals as goal
-
-pub returns : goal.returns
-unfolding ext_psk_ke_modes vector digits
-returns c = c.put_extension.ensures
