@@ -7,7 +7,7 @@ ghost use Rattle.alike.specs.Code.{name_of, names_of};
 use fingerprint::report::part;
 use fingerprint_lists::Span;
 
-// The server's names, or none in both.
+// The server's names, or none in both: ranges of two hellos, so `==` of the options would compare places.
 pub fn same_name(a: &[u8], x: Option<Span>, b: &[u8], y: Option<Span>) -> bool
     requires { SniInside a.now x × SniInside b.now y }
     ensures { result ≡ same_name (name_of a.now x) (name_of b.now y) }

@@ -11,6 +11,7 @@ ghost use Rattle.records.specs.Records.{record_at, record_of};
 ghost use Rattle.wire.specs.Refusals.{question};
 ghost use Rattle.std.specs.Prelude.{◌≡◌, ◌++◌, length};
 ghost use Rattle.answers.specs.Said.{number, said_count, plainly, handing, Says, Hands};
+ghost use Rattle.answers.specs.Faults.{fault_of};
 ghost use Rattle.answers.specs.Answers.{refused_parts, buffer_parts, size_parts, write_parts, read_parts, make_parts, join_parts, frames_parts, split_parts, splitting};
 
 use script::reading::NoPiece;
@@ -48,6 +49,8 @@ impl fmt::Display for Fault {
 }
 
 impl From<NoPiece> for Fault {
+    ghost from_gives = { λ no fault. fault ≡ fault_of no };
+
     fn from(no: NoPiece) -> Fault {
         match no {
             NoPiece::Malformed => Fault::NoPiece,
@@ -57,7 +60,7 @@ impl From<NoPiece> for Fault {
 }
 
 // What a line that is no error is answered: so many bytes of text; the same with the count of the bytes handed back; the same with
-// the refusal.
+// the refusal. No Result: a refusal is an answer too, with its text.
 #[derive(Clone, Copy, PartialEq, Eq, Debug)]
 pub enum Said {
     Answer(usize),

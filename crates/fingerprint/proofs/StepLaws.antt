@@ -17,13 +17,13 @@ use Rattle.wire.specs.Numbers.{number}
 use Rattle.wire.specs.Sums.{member}
 use Rattle.wire.proofs.ListLaws.{lt-or-le}
 use Rattle.fingerprint_bodies.specs.Entries.{entry, bind}
-use Rattle.fingerprint_bodies.specs.Body.{Body, kind}
+use Rattle.fingerprint_bodies.specs.Body.{Body, Kind, kind}
 use Rattle.fingerprint_bodies.specs.Forms.{body_of, ids_new, within_counts}
 use Rattle.fingerprint_bodies.specs.Code.{asked_of, asked}
 use Rattle.fingerprint_bodies.proofs.PieceLaws.{number-there, number_cut, vector-short, vector-there, vector-cut}
 use Rattle.fingerprint.specs.ClientHello.{Extension, type_of}
 use Rattle.fingerprint.specs.Reader.{in_form, one_extension, ask_body, extension}
-use Rattle.fingerprint.specs.Code.{slot, HeaderFound, StepFound}
+use Rattle.fingerprint.specs.Code.{HeaderFound, StepFound}
 
 -- ---- the header
 
@@ -140,7 +140,7 @@ module _ {h : List ℕ} {at t start end : ℕ} (f : HeaderFound h at t start end
       unfolding extension ask_body asked
       step-full l done e = rw (f.is, e, m, le-ltb (length done) 64 (omega (arith, l, sized done e)), full t (body_of (kind t) bytes) q)
 
-      pub step-found : {place : ℕ} → place ≡ slot (kind t) → length known < 64 → StepFound h at t place start end known
+      pub step-found : {k : Kind} → k ≡ kind t → length known < 64 → StepFound h at t k start end known
       unfolding extension ask_body asked
       step-found p l =
           let g : Good t (body_of (kind t) bytes) = good t (body_of (kind t) bytes) q in
@@ -150,7 +150,7 @@ module _ {h : List ℕ} {at t start end : ℕ} (f : HeaderFound h at t start end
             is = next g l;
             good = q;
             new = m;
-            place_is = p;
+            kind-is = p;
             room = l;
             after-header = f.after-header;
             forward = f.forward;

@@ -129,8 +129,8 @@ module _ {h : List ℕ} {block at count : ℕ} {types : List ℕ} {marks : List 
     notes = w.notes;
   }
 
-  module _ {t place start end mark : ℕ} (m : mark ≡ t % 64) (bytes : Bytes h) (l : at < length h) (s : StepFound h at t place start end (take count types))
-      {n : ℕ} {new : List ℕ} (g : Gained (kind t) (take (end - start) (drop start h)) n ids new) where
+  module _ {t start end mark place : ℕ} {k : Kind} (m : mark ≡ t % 64) (p : place ≡ slot k) (bytes : Bytes h) (l : at < length h)
+      (s : StepFound h at t k start end (take count types)) {n : ℕ} {new : List ℕ} (g : Gained (kind t) (take (end - start) (drop start h)) n ids new) where
     abbrev next : Extension
     next = record { type = t; body = s.found }
 
@@ -160,7 +160,7 @@ module _ {h : List ℕ} {block at count : ℕ} {types : List ℕ} {marks : List 
 
     notes-all : (k : Kind) → Noted h block all k (get_or (set bodies place (span start (end - start))) (slot k) (span 0 0))
     notes-all =
-        rw s.place_is
+        rw (p, s.kind-is)
         (notes-next h block start (end - start) w.found next bodies (omega (arith, w.bodies-long))
         type-new body-place (omega (arith, s.forward, s.inside)) s.body_is s.good w.notes)
 

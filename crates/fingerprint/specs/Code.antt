@@ -22,6 +22,8 @@ use Rattle.fingerprint.specs.declared.head.Head.{Head}
 use Rattle.fingerprint.specs.declared.walk.Survey.{Survey}
 use Rattle.fingerprint.specs.declared.walk.Header.{Header}
 use Rattle.fingerprint.specs.declared.walk.Step.{Step}
+use Rattle.fingerprint.specs.declared.walk.Kind as code
+use Rattle.fingerprint.specs.declared.walk.Kind.TheVariants as named
 use Rattle.fingerprint.specs.declared.Fingerprint.{Fingerprint}
 
 -- the bytes of a part of the hello
@@ -120,17 +122,16 @@ slot shares = 5
 slot parameters = 6
 slot other = 7
 
--- the kind whose place it is
-abbrev pub kind_at : ℕ → Kind
-kind_at n =
-    cond (eqb n 0) name
-    (cond (eqb n 1) groups
-    (cond (eqb n 2) algorithms
-    (cond (eqb n 3) protocols
-    (cond (eqb n 4) versions
-    (cond (eqb n 5) shares
-    (cond (eqb n 6) parameters
-    other))))))
+-- the kind that the code names
+abbrev pub meant : code.Kind → Kind
+meant named.Name = name
+meant named.Groups = groups
+meant named.Algorithms = algorithms
+meant named.Protocols = protocols
+meant named.Versions = versions
+meant named.Shares = shares
+meant named.Parameters = parameters
+meant named.Other = other
 
 abbrev pub name_at : ℕ → Option (List ℕ) → List Part
 name_at at none = []
@@ -180,14 +181,14 @@ pub record BodyAsked (k : Kind) (bs : List ℕ) (r : Result ℕ Refusal) (old ne
   pub is : told_number r ≡ asked k bs
   pub gained : IfOk r (λ n. Gained k bs n old new)
 
--- the next extension at a place of the hello, after others of these types, and the place of its body in a survey's bodies
-pub record StepFound (h : List ℕ) (at t place start end : ℕ) (known : List ℕ) : Type 0 where
+-- the next extension at a place of the hello, after others of these types, and the kind of its body
+pub record StepFound (h : List ℕ) (at t : ℕ) (k : Kind) (start end : ℕ) (known : List ℕ) : Type 0 where
   pub found : Body
   pub body_is : body_of (kind t) (take (end - start) (drop start h)) ≡ some found
   pub is : (done : List Extension) → map type_of done ≡ known → extension done (drop at h) ≡ result (entry (record { type = t; body = found }) (drop end h))
   pub good : asked (kind t) (take (end - start) (drop start h)) ≡ 0
   pub new : member t known ≡ false
-  pub place_is : place ≡ slot (kind t)
+  pub kind-is : k ≡ kind t
   pub room : length known < 64
   pub after-header : start ≡ at + 4
   pub forward : start ≤ end
@@ -195,7 +196,7 @@ pub record StepFound (h : List ℕ) (at t place start end : ℕ) (known : List �
 
 abbrev pub StepAs : Result Step Refusal → List ℕ → ℕ → List ℕ → List ℕ → List ℕ → Type 0
 StepAs (Ok s) h at known old new =
-    StepFound h at s.ext_type s.slot s.start s.end known × Gained (kind s.ext_type) (take (s.end - s.start) (drop s.start h)) s.ids old new
+    StepFound h at s.ext_type (meant s.kind) s.start s.end known × Gained (kind s.ext_type) (take (s.end - s.start) (drop s.start h)) s.ids old new
 StepAs (Err e) h at known old new = (done : List Extension) → map type_of done ≡ known → extension done (drop at h) ≡ refused (question e)
 
 -- a note lies inside the hello; the body there was found good, or the extension is not there and the note is empty

@@ -41,6 +41,7 @@ pub fn read_fields(hello: &[u8]) -> Result<Head, Refusal>
     if n < 4 {
         return Err(Refusal::WrongLength);
     }
+    // three bytes, which no method of the library reads
     let length = usize::from(hello[1]) * 65536 + usize::from(be16(&hello[2..]));
     if length != n - 4 {
         return Err(Refusal::WrongLength);

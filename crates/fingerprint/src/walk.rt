@@ -5,10 +5,47 @@ ghost use Rattle.wire.specs.Sums.{member};
 ghost use Rattle.fingerprint_bodies.specs.Body.{kind};
 ghost use Rattle.fingerprint_parameters.specs.Code.{Marked};
 ghost use Rattle.fingerprint.specs.Code as code;
-ghost use Rattle.fingerprint.specs.Code.{kind_at, HeaderAs, BodyAsked, StepAs, SurveyAs};
+ghost use Rattle.fingerprint.specs.Code.{meant, HeaderAs, BodyAsked, StepAs, SurveyAs};
 
 use fingerprint_lists::Span;
 use wire::{Refusal, be16};
+
+// What kind of body an extension has, by its type: which list is read from it.
+#[derive(Clone, Copy, PartialEq, Eq, Debug)]
+pub enum Kind {
+    Name,
+    Groups,
+    Algorithms,
+    Protocols,
+    Versions,
+    Shares,
+    Parameters,
+    Other,
+}
+
+impl Kind {
+    pub fn of(t: u16) -> Kind
+        ensures { meant result ≡ kind t }
+    {
+        match t {
+            0x0000 => Kind::Name,
+            0x000a => Kind::Groups,
+            0x000d => Kind::Algorithms,
+            0x0010 => Kind::Protocols,
+            0x002b => Kind::Versions,
+            0x0033 => Kind::Shares,
+            0x0039 => Kind::Parameters,
+            _ => Kind::Other,
+        }
+    }
+
+    // The place in a survey's bodies; the last is for those that are not read.
+    pub fn slot(self) -> usize
+        ensures { result ≡ code.slot (meant self) }
+    {
+        self as usize
+    }
+}
 
 // What the walk found: how many extensions there are, for each kind of body the part of the hello that holds it, empty where there is
 // none, and how many parameter ids there are.
@@ -27,47 +64,29 @@ pub struct Header {
     pub end: usize,
 }
 
-// One extension: its type, the place of its body in a survey, its body's ends, and how many parameter ids it has.
+// One extension: its type, its body's kind and ends, and how many parameter ids it has.
 #[derive(Clone, Copy, PartialEq, Eq, Debug)]
 pub struct Step {
     pub ext_type: u16,
-    pub slot: usize,
+    pub kind: Kind,
     pub start: usize,
     pub end: usize,
     pub ids: usize,
 }
 
-// The place in a survey's bodies for each kind of body; the last is for those that are not read. A number and not an enum: it is the
-// index there.
-pub fn slot(t: u16) -> usize
-    ensures { result ≡ code.slot (kind t) }
+// The questions of a body, by its kind: each goes to its own reader. Question 22 reads all parameter ids: they are left in the array, and
+// this is their count.
+pub fn ask_body(kind: Kind, body: &[u8], ids: &mut [u64; 64]) -> Result<usize, Refusal>
+    ensures { BodyAsked (meant kind) body.now result ids.old ids.new }
 {
-    match t {
-        0x0000 => 0,
-        0x000a => 1,
-        0x000d => 2,
-        0x0010 => 3,
-        0x002b => 4,
-        0x0033 => 5,
-        0x0039 => 6,
-        _ => 7,
-    }
-}
-
-// The questions of a body, by its kind's place: each goes to its own reader. Question 22 reads all parameter ids: they are left in the
-// array, and this is their count.
-pub fn ask_body(place: usize, body: &[u8], ids: &mut [u64; 64]) -> Result<usize, Refusal>
-    ensures { BodyAsked (kind_at place) body.now result ids.old ids.new }
-{
-    match place {
-        0 => fingerprint_bodies::ask_name(body)?,
-        1 => fingerprint_bodies::ask_words(body, 2)?,
-        2 => fingerprint_bodies::ask_words(body, 2)?,
-        3 => fingerprint_bodies::ask_protocols(body)?,
-        4 => fingerprint_bodies::ask_words(body, 1)?,
-        5 => fingerprint_bodies::ask_shares(body)?,
-        6 => return fingerprint_parameters::ask_parameters(body, ids),
-        _ => (),
+    match kind {
+        Kind::Name => fingerprint_bodies::ask_name(body)?,
+        Kind::Groups | Kind::Algorithms => fingerprint_bodies::ask_words(body, 2)?,
+        Kind::Protocols => fingerprint_bodies::ask_protocols(body)?,
+        Kind::Versions => fingerprint_bodies::ask_words(body, 1)?,
+        Kind::Shares => fingerprint_bodies::ask_shares(body)?,
+        Kind::Parameters => return fingerprint_parameters::ask_parameters(body, ids),
+        Kind::Other => (),
     }
     Ok(0)
 }
@@ -101,7 +120,8 @@ impl Known<'_> {
     }
 }
 
-// The header of the extension at a place; none where header or body are not inside the block.
+// The header of the extension at a place; none where header or body are not inside the block. That a place lies in the hello is a
+// fact about two arguments, which a type of its own would hold no plainer.
 pub fn read_header(hello: &[u8], at: usize) -> Option<Header>
     requires { at ≤ length hello.now }
     ensures { HeaderAs result hello.now at }
@@ -137,16 +157,16 @@ pub fn extension(
     if known.has(ext_type) {
         return Err(Refusal::ExtensionMalformed);
     }
-    let place = slot(ext_type);
+    let kind = Kind::of(ext_type);
     let start = header.start;
     let end = header.end;
-    let new_ids = ask_body(place, &hello[start..end], ids)?;
+    let new_ids = ask_body(kind, &hello[start..end], ids)?;
     if 64 <= known.count {
         return Err(Refusal::ListTooLong);
     }
     Ok(Step {
         ext_type,
-        slot: place,
+        kind,
         start,
         end,
         ids: new_ids,
@@ -181,7 +201,7 @@ pub fn survey_block(
         let step = extension(hello, at, known, ids)?;
         types[count] = step.ext_type;
         marks[mark(step.ext_type)] = true;
-        bodies[step.slot] = Span {
+        bodies[step.kind.slot()] = Span {
             start: step.start,
             length: step.end - step.start,
         };

@@ -114,6 +114,7 @@ pub fn ask_protocols(body: &[u8]) -> Result<(), Refusal>
     Err(Refusal::ExtensionMalformed)
 }
 
+// Beside `ask_entries`: the two share a loop of five lines, and part in entry, limit and the test for none.
 fn ask_names(list: &[u8]) -> Result<(), Refusal>
     ensures { told_number result ≡ within 16 (some_names list.now) }
 {

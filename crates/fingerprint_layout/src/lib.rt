@@ -32,7 +32,8 @@ pub struct LastCounts {
     pub protocols: usize,
 }
 
-// Writes the suites, the types, the groups and the groups of key shares: 512 bytes.
+// Writes the suites, the types, the groups and the groups of key shares: 512 bytes. Other lists than in `put_last_lists`, at other places:
+// one function for both would take each place and reader as a parameter.
 fn put_first_lists(
     out: &mut [u8],
     hello: &[u8],

@@ -1,23 +1,22 @@
 -- Entries of a body passed over one by one, as the code does it. Assumes nothing.
 use Prim.Native.Nat.{ℕ, zero, suc, ◌+◌, ◌-◌, ◌≤◌, ◌<◌}
 use mathlib.Core.Path.{◌≡◌, refl, sym, ap, ◌∙◌}
-use mathlib.Core.Bool.{Bool, true, false, cond}
+use mathlib.Core.Bool.{true, false}
 use mathlib.Core.List.{List, []}
 use mathlib.Core.Option.{Option, none, some}
 use native.Mathlib.Nat.{sub-zero}
 use native.Mathlib.Omega.{arith}
 use lib.ListN.{length, drop, length-drop, drop_of_length-le}
 use lib.Seq.{drop-drop}
-use lib.Dec.{eqb}
-use borrow.Author.Tests.{lt-leb, le-leb, eq-eqb, ne_eqb, eqb-true, eqb-false, lt-ltb, le-ltb}
+use borrow.Author.Tests.{lt-leb, le-leb, eq-eqb, ne_eqb, lt-ltb, le-ltb}
 use Rattle.varint.specs.Varint.{class_at, read_of}
 use Rattle.fingerprint_bodies.specs.Entries.{Entry, entry, bind, vector_at, number_at}
 use Rattle.fingerprint_bodies.specs.Body.{Kind, name, groups, algorithms, protocols, versions, shares, parameters, other}
 use Rattle.fingerprint_bodies.specs.Forms.{one_name, one_share, varint_at, one_parameter}
 use Rattle.fingerprint_bodies.specs.Code.{is_whole, NameFound, ShareFound}
 use Rattle.fingerprint_parameters.specs.Code.{ParameterFound}
-use Rattle.fingerprint.specs.Code.{kind_at}
-use Rattle.fingerprint.proofs.KindLaws.{kind-at-other}
+use Rattle.fingerprint.specs.Code.{meant}
+use Rattle.fingerprint.specs.declared.walk.Kind as code
 use Rattle.fingerprint_stops.specs.Stops.{size_of, word_size, entry_size, passed, list_at, broken, most, past}
 use Rattle.fingerprint_stops.proofs.PlaceLaws.{entry-within}
 
@@ -74,18 +73,17 @@ module _ (bs : List ℕ) where
   unfolding entry_size
   versions-size r e = e
 
-  -- by the kind's place
-  pub size-at : (place r : ℕ) (k : Kind) → kind_at place ≡ k → r ≡ entry_size k bs → (r ≡ entry_size (kind_at place) bs) × (r ≤ length bs)
-  size-at place r k e q = (q ∙ ap (λ (k : Kind). entry_size k bs) (sym e), omega (arith, q, entry-within k bs))
-
-  pub size-other : (n : ℕ) → (n ≡ 1 → ⊥) → (n ≡ 2 → ⊥) → (n ≡ 3 → ⊥) → (n ≡ 4 → ⊥) → (n ≡ 5 → ⊥) → (n ≡ 6 → ⊥)
-      → (0 ≡ entry_size (kind_at n) bs) × (0 ≤ length bs)
+  pub server-name-size : 0 ≡ entry_size name bs
   unfolding entry_size
-  size-other n a b c d e f = go (eqb n 0) refl
-    where
-      go : (t : Bool) → eqb n 0 ≡ t → (0 ≡ entry_size (kind_at n) bs) × (0 ≤ length bs)
-      go true q = size-at n 0 name (ap kind_at (eqb-true n 0 q)) refl
-      go false q = size-at n 0 other (kind-at-other n (eqb-false n 0 q) a b c d e f) refl
+  server-name-size = refl
+
+  pub other-size : 0 ≡ entry_size other bs
+  unfolding entry_size
+  other-size = refl
+
+  -- by the kind that the code names
+  pub size-at : (c : code.Kind) (r : ℕ) (k : Kind) → meant c ≡ k → r ≡ entry_size k bs → (r ≡ entry_size (meant c) bs) × (r ≤ length bs)
+  size-at c r k e q = (q ∙ ap (λ (k : Kind). entry_size k bs) (sym e), omega (arith, q, entry-within k bs))
 
 -- ---- n entries, of which k were passed over and the next is at a place
 
@@ -126,31 +124,6 @@ passed-nil : (k : Kind) (n : ℕ) → passed k n [] ≡ 0
 unfolding passed
 passed-nil k zero = refl
 passed-nil k (suc n) = rw (entry-nil k)
-
--- ---- the list's place, and its most
-
-pub list-other : (n : ℕ) → (n ≡ 0 → ⊥) → (n ≡ 1 → ⊥) → (n ≡ 2 → ⊥) → (n ≡ 3 → ⊥) → (n ≡ 4 → ⊥) → (n ≡ 5 → ⊥) → 0 ≡ list_at (kind_at n)
-unfolding list_at
-list-other n a b c d e f = go (eqb n 6) refl
-  where
-    go : (t : Bool) → eqb n 6 ≡ t → 0 ≡ list_at (kind_at n)
-    go true q = rw (eqb-true n 6 q)
-    go false q = rw (kind-at-other n a b c d e f (eqb-false n 6 q))
-
-pub most_other : (n : ℕ) → (n ≡ 3 → ⊥) → 64 ≡ most (kind_at n)
-unfolding most
-most_other n h =
-    rw (ne_eqb n 3 h)
-    (either (eqb n 0) name _ refl
-    (either (eqb n 1) groups _ refl
-    (either (eqb n 2) algorithms _ refl
-    (either (eqb n 4) versions _ refl
-    (either (eqb n 5) shares _ refl
-    (either (eqb n 6) parameters other refl refl))))))
-  where
-    either : (b : Bool) (k l : Kind) → 64 ≡ most k → 64 ≡ most l → 64 ≡ most (cond b k l)
-    either true k l e f = e
-    either false k l e f = f
 
 -- ---- a body; its list begins after `width` bytes
 

@@ -134,7 +134,7 @@ module _ {h : List ℕ} {block at count : ℕ} {types ids : List ℕ} (w : Stopp
     stopping-stop n place s e =
         sym (w.is ∙ turn ∙ rw (s w.found (sym w.types_are), ← w.types_are, e))
 
-    module _ {t slot start end : ℕ} (s : StepFound h at t slot start end (take count types)) {n : ℕ} {old new : List ℕ}
+    module _ {t start end : ℕ} {k : Kind} (s : StepFound h at t k start end (take count types)) {n : ℕ} {old new : List ℕ}
         (g : Gained (kind t) (take (end - start) (drop start h)) n old new) where
       abbrev next : Extension
       next = record { type = t; body = s.found }

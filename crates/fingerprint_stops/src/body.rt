@@ -2,36 +2,34 @@
 ghost use Rattle.std.specs.Prelude.{◌+◌, ◌≤◌, ◌≡◌, length};
 ghost use Rattle.wire.specs.Sums.{member};
 ghost use Rattle.fingerprint_bodies.specs.Body.{kind};
-ghost use Rattle.fingerprint.specs.Code.{kind_at};
+ghost use Rattle.fingerprint.specs.Code.{meant};
 ghost use Rattle.fingerprint_stops.specs.Stops.{word_size, entry_size, passed, list_at, broken, most, past, repeated_at, body_place};
 ghost use Rattle.fingerprint_stops.specs.Code.{first_ids};
 
-use fingerprint::walk::{ask_body, slot};
+use fingerprint::walk::{Kind, ask_body};
 use fingerprint_bodies::{is_whole, one_name, one_share};
 use fingerprint_parameters::one_parameter;
 use wire::Refusal;
 
-// How many bytes the entry at the front takes, by its kind's place; 0 where no entry is whole.
-fn entry_size(place: usize, rest: &[u8]) -> usize
-    ensures { (result ≡ entry_size (kind_at place) rest.now) × (result ≤ length rest.now) }
+// How many bytes the entry at the front takes, by its kind; 0 where no entry is whole.
+fn entry_size(kind: Kind, rest: &[u8]) -> usize
+    ensures { (result ≡ entry_size (meant kind) rest.now) × (result ≤ length rest.now) }
 {
-    match place {
-        1 => word_size(rest),
-        2 => word_size(rest),
-        3 => match one_name(rest) {
+    match kind {
+        Kind::Groups | Kind::Algorithms | Kind::Versions => word_size(rest),
+        Kind::Protocols => match one_name(rest) {
             Some(length) => 1 + length,
             None => 0,
         },
-        4 => word_size(rest),
-        5 => match one_share(rest) {
+        Kind::Shares => match one_share(rest) {
             Some(share) => share.used,
             None => 0,
         },
-        6 => match one_parameter(rest) {
+        Kind::Parameters => match one_parameter(rest) {
             Some(parameter) => parameter.used,
             None => 0,
         },
-        _ => 0,
+        Kind::Name | Kind::Other => 0,
     }
 }
 
@@ -42,12 +40,12 @@ fn word_size(rest: &[u8]) -> usize
 }
 
 // The place after n entries, or that of the first that is not whole.
-fn passed_over(place: usize, list: &[u8], n: usize) -> usize
-    ensures { (result ≡ passed (kind_at place) n list.now) × (result ≤ length list.now) }
+fn passed_over(kind: Kind, list: &[u8], n: usize) -> usize
+    ensures { (result ≡ passed (meant kind) n list.now) × (result ≤ length list.now) }
 {
     let mut at = 0;
     for _k in 0..n {
-        let size = entry_size(place, &list[at..]);
+        let size = entry_size(kind, &list[at..]);
         if size == 0 {
             return at;
         }
@@ -56,53 +54,54 @@ fn passed_over(place: usize, list: &[u8], n: usize) -> usize
     at
 }
 
-// The bytes of the length before a body's list, by its kind's place; 0 where there is none.
-fn list_at(place: usize) -> usize
-    ensures { (result ≡ list_at (kind_at place)) × (result ≤ 2) }
+// The bytes of the length before a body's list, by its kind; 0 where there is none.
+#[tactic(auto, unfolding(crate::specs::Stops::list_at))]
+fn list_at(kind: Kind) -> usize
+    ensures { (result ≡ list_at (meant kind)) × (result ≤ 2) }
 {
-    match place {
-        0 => 2,
-        1 => 2,
-        2 => 2,
-        3 => 2,
-        4 => 1,
-        5 => 2,
-        _ => 0,
+    match kind {
+        Kind::Name | Kind::Groups | Kind::Algorithms | Kind::Protocols | Kind::Shares => 2,
+        Kind::Versions => 1,
+        Kind::Parameters | Kind::Other => 0,
     }
 }
 
 // A body that is not in its form: its list's length, or the first entry that is not whole.
-fn broken_at(place: usize, body: &[u8]) -> usize
-    ensures { (result ≡ broken (kind_at place) body.now) × (result ≤ length body.now) }
+fn broken_at(kind: Kind, body: &[u8]) -> usize
+    ensures { (result ≡ broken (meant kind) body.now) × (result ≤ length body.now) }
 {
-    let width = list_at(place);
+    let width = list_at(kind);
     if width == 0 {
-        return passed_over(place, body, body.len());
+        return passed_over(kind, body, body.len());
     }
     if is_whole(body, width) {
         if width < body.len() {
-            return width + passed_over(place, &body[width..], body.len());
+            return width + passed_over(kind, &body[width..], body.len());
         }
     }
     0
 }
 
 // How many entries stand in a list at most.
-fn most_at(place: usize) -> usize
-    ensures { result ≡ most (kind_at place) }
+#[tactic(auto, unfolding(crate::specs::Stops::most))]
+fn most_at(kind: Kind) -> usize
+    ensures { result ≡ most (meant kind) }
 {
-    if place == 3 { 16 } else { 64 }
+    match kind {
+        Kind::Protocols => 16,
+        _ => 64,
+    }
 }
 
 // The first entry past the count of its list.
-fn past_count(place: usize, body: &[u8]) -> usize
-    ensures { (result ≡ past (kind_at place) body.now) × (result ≤ 2 + length body.now) }
+fn past_count(kind: Kind, body: &[u8]) -> usize
+    ensures { (result ≡ past (meant kind) body.now) × (result ≤ 2 + length body.now) }
 {
-    let width = list_at(place);
+    let width = list_at(kind);
     if body.len() < width {
         return width;
     }
-    width + passed_over(place, &body[width..], most_at(place))
+    width + passed_over(kind, &body[width..], most_at(kind))
 }
 
 // The id is among those of the first k parameters.
@@ -150,14 +149,14 @@ pub fn in_body(t: u16, body: &[u8]) -> usize
     if body.is_empty() {
         return 0;
     }
-    let place = slot(t);
+    let kind = Kind::of(t);
     let mut ids = [0u64; 64];
-    let Err(refusal) = ask_body(place, body, &mut ids) else {
+    let Err(refusal) = ask_body(kind, body, &mut ids) else {
         return 0;
     };
     match refusal {
-        Refusal::ExtensionMalformed => 4 + broken_at(place, body),
+        Refusal::ExtensionMalformed => 4 + broken_at(kind, body),
         Refusal::ParameterTwice => 4 + repeated_at(body),
-        _ => 4 + past_count(place, body),
+        _ => 4 + past_count(kind, body),
     }
 }

@@ -1,6 +1,7 @@
 // The commands: their words, and how many operands each has, of which kind. The operands stand in this order: a number, bytes
 // that are read, buffers that are filled.
-ghost use Rattle.std.specs.Prelude.{◌≤◌};
+ghost use Rattle.std.specs.Prelude.{◌≡◌, ◌≤◌, ◌+◌};
+ghost use Rattle.operands.specs.Commands.{command_of, kinds_of, numbers_in, inputs_in, buffers_in};
 
 #[derive(Clone, Copy, PartialEq, Eq, Debug)]
 pub enum Command {
@@ -21,7 +22,9 @@ pub enum Command {
 
 impl Command {
     // The command that has this word.
-    pub fn from_word(word: &[u8]) -> Option<Command> {
+    pub fn from_word(word: &[u8]) -> Option<Command>
+        ensures { result ≡ command_of word.now }
+    {
         match word {
             b"size" => Some(Command::Size),
             b"write" => Some(Command::Write),
@@ -42,7 +45,8 @@ impl Command {
 
     // 1 where the first operand is a number, or for `make` a profile.
     pub fn numbers(self) -> usize
-        ensures { result ≤ 1 }
+        ensures is { result ≡ numbers_in (kinds_of self) }
+        ensures most { result ≤ 1 }
     {
         match self {
             Command::Size | Command::Write | Command::Make | Command::Frames | Command::Split => 1,
@@ -52,7 +56,8 @@ impl Command {
 
     // How many operands are bytes that are read.
     pub fn inputs(self) -> usize
-        ensures { result ≤ 3 }
+        ensures is { result ≡ inputs_in (kinds_of self) }
+        ensures most { result ≤ 3 }
     {
         match self {
             Command::Size | Command::Write => 0,
@@ -64,7 +69,8 @@ impl Command {
 
     // How many operands are buffers that are filled.
     pub fn buffers(self) -> usize
-        ensures { result ≤ 2 }
+        ensures is { result ≡ buffers_in (kinds_of self) }
+        ensures most { result ≤ 2 }
     {
         match self {
             Command::Write | Command::Make | Command::Frames => 1,
@@ -74,7 +80,9 @@ impl Command {
     }
 
     // How many operands there are.
-    pub fn operands(self) -> u8 {
+    pub fn operands(self) -> u8
+        ensures { result ≡ numbers_in (kinds_of self) + inputs_in (kinds_of self) + buffers_in (kinds_of self) }
+    {
         (self.numbers() + self.inputs() + self.buffers()) as u8
     }
 }

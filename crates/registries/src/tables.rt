@@ -1,4 +1,5 @@
-// The registries but for the suites: numbers, and in the same order their names.
+// The registries but for the suites: numbers, and in the same order their names. Each has a function of its own: a contract
+// by its own table, in one call. A name beside each number would be an array of references, and no reader plainer.
 ghost use Rattle.script_writing.specs.Shown.{Written};
 ghost use Rattle.registries.specs.Tables.{group_name, algorithm_name, type_name, version_name, parameter_name};
 

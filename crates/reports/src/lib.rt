@@ -18,6 +18,9 @@ use names::{put_protocols, put_sni};
 use script_writing::names::put_name;
 use script_writing::texts::{put_number, put_text};
 
+// Each pair of lists is written by a function of its own, and `Counts` is asked by each: a report's fields are open, so an invariant would ask
+// more of whoever makes one, and a struct round it would be made for one call.
+
 // The lines of the cipher suites and of the extensions' types.
 fn put_type_lines(out: &mut [u8], report: Fingerprint) -> usize
     requires { Counts report }

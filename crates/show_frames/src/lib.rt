@@ -102,7 +102,6 @@ fn put_row(out: &mut [u8], frames: &[u8], at: usize, size: usize, stop: Option<S
         digits: DIGITS,
         at,
         past: at + size,
-        what: 0,
     };
     let t = told_frame(&frames[at..], stop);
     put_line(out, frames, spot, stop, t)
@@ -126,7 +125,6 @@ fn put_end(out: &mut [u8], frames: &[u8], at: usize, stop: Option<Stop>) -> usiz
         digits: DIGITS,
         at,
         past: length + 1,
-        what: 26,
     };
     let t = told(last_words(at, length), stop, 0, 0, 0);
     put_line(out, frames, spot, stop, t)

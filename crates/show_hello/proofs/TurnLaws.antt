@@ -8,9 +8,8 @@ use borrow.Author.Tests.{lt-ltb, le-ltb}
 use borrow.Rule.Slice.PartMut.{mid_of, put_mid}
 use lib.ListN.{length}
 use Rattle.wire.specs.Stops.{Stopped}
-use Rattle.show_lines.specs.declared.cursor.Cursor.{Cursor}
 use Rattle.show_lines.specs.declared.cursor.Line.{Line}
-use Rattle.show_lines.specs.Lines.{Row, row, line_at, next, start, listed}
+use Rattle.show_lines.specs.Lines.{Cursor, Row, row, line_at, next, start, listed}
 use Rattle.show_words.specs.Code.{LineWritten, LinesWritten}
 use Rattle.show_words.proofs.LineLaws.{lines_none, lines_next}
 

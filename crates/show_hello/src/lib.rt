@@ -7,12 +7,13 @@ mod words;
 ghost use Rattle.std.specs.Prelude.{◌≤◌, length};
 ghost use Rattle.wire.specs.Stops.{stop_of};
 ghost use Rattle.show_lines.specs.Lines.{row, Reaches, Ready};
+ghost use Rattle.show_lines.specs.Rows.{kind_number, cursor_of};
 ghost use Rattle.show_marks.specs.Text.{last_row};
 ghost use Rattle.show_words.specs.Code.{LineWritten, LinesWritten};
 ghost use Rattle.show_hello.specs.Listing.{read_rows, Listed};
 
 use show_lines::cursor::{Cursor, Line, line_at, next, part_end, start};
-use show_lines::grammar::{AFTER, END};
+use show_lines::grammar::Kind;
 use show_marks::put_verdict;
 use show_words::{Spot, put_line};
 use wire::Stop;
@@ -25,8 +26,8 @@ const DIGITS: usize = 4;
 
 // Writes the line at the cursor.
 fn put_row(out: &mut [u8], hello: &[u8], c: Cursor, line: Line, stop: Option<Stop>) -> usize
-    requires { Ready (length hello.now) c × Reaches (length hello.now) c line }
-    ensures { LineWritten 4 hello.now (stop_of stop) (row c.at line.end c.what) result out.old out.new }
+    requires { Ready (length hello.now) (cursor_of c) × Reaches (length hello.now) (cursor_of c) line }
+    ensures { LineWritten 4 hello.now (stop_of stop) (row c.at line.end (kind_number c.kind)) result out.old out.new }
 {
     let at = c.at;
     let end = line.end;
@@ -35,10 +36,9 @@ fn put_row(out: &mut [u8], hello: &[u8], c: Cursor, line: Line, stop: Option<Sto
         digits: DIGITS,
         at,
         past: end,
-        what: c.what,
     };
     let shown = Shown {
-        what: c.what,
+        kind: c.kind,
         bytes: &hello[at..end],
         line,
         left: left as u64,
@@ -46,8 +46,8 @@ fn put_row(out: &mut [u8], hello: &[u8], c: Cursor, line: Line, stop: Option<Sto
     put_line(out, hello, spot, stop, shown.told(stop))
 }
 
-fn last_what(at: usize, length: usize) -> usize {
-    if at < length { AFTER } else { END }
+fn last_kind(at: usize, length: usize) -> Kind {
+    if at < length { Kind::After } else { Kind::End }
 }
 
 // Writes the last line: the hello's end, or the bytes that are past what is read.
@@ -65,10 +65,9 @@ fn put_end(out: &mut [u8], hello: &[u8], at: usize, stop: Option<Stop>) -> usize
         digits: DIGITS,
         at,
         past: length + 1,
-        what: END,
     };
     let shown = Shown {
-        what: last_what(at, length),
+        kind: last_kind(at, length),
         bytes: &hello[at..],
         line,
         left: length as u64,

@@ -1,161 +1,12 @@
 // What is told of a hello's lines: their words, and of the line at which the reader stopped, why it did.
 ghost use Rattle.std.specs.Prelude.{◌≤◌, length};
 
-use fingerprint::walk::slot;
+use fingerprint::walk;
 use script::reading::all_plain;
 use show_lines::cursor::Line;
-use show_lines::grammar::{
-    END, EXTENSION, LENGTH, MSG_TYPE, NAME, PARAMETER, PROTOCOL, Part, row_of,
-};
+use show_lines::grammar::{Kind, Part, row_of};
 use show_words::Told;
 use wire::{Refusal, Stop, be16};
-
-// What a kind of line is called, what its line says, and the rule of document 01 that it breaks where it is as long as it says.
-#[derive(Clone, Copy)]
-struct Words {
-    noun: &'static str,
-    line: &'static str,
-    rule: &'static str,
-}
-
-// In the order of the grammar.
-const WORDS: [Words; 27] = [
-    Words {
-        noun: "msg_type",
-        line: "<@ client_hello",
-        rule: " ",
-    },
-    Words {
-        noun: "length",
-        line: "<@, # $",
-        rule: " ",
-    },
-    Words {
-        noun: "legacy_version",
-        line: "<@ =",
-        rule: " ",
-    },
-    Words {
-        noun: "random",
-        line: "<@",
-        rule: " ",
-    },
-    Words {
-        noun: "legacy_session_id",
-        line: "<@, # $",
-        rule: "a session id has at most 32 bytes",
-    },
-    Words {
-        noun: "cipher_suites",
-        line: "<@, # $",
-        rule: "suites take an even number of bytes, 2 or more",
-    },
-    Words {
-        noun: "suite",
-        line: "<@ =",
-        rule: " ",
-    },
-    Words {
-        noun: "legacy_compression_methods",
-        line: "<@, # $",
-        rule: "compression takes 1 byte or more",
-    },
-    Words {
-        noun: "extension_block",
-        line: "<@, # $",
-        rule: " ",
-    },
-    Words {
-        noun: "extension",
-        line: "<@ =, # $",
-        rule: "this type stands twice",
-    },
-    Words {
-        noun: "server_name_list",
-        line: "<@, # $",
-        rule: "a list of one name",
-    },
-    Words {
-        noun: "server_name",
-        line: "<@, # $ \"",
-        rule: "one entry of type 0, with a name of 1 byte or more that ends the list",
-    },
-    Words {
-        noun: "named_group_list",
-        line: "<@, # $",
-        rule: "a list takes an even number of bytes, 2 or more",
-    },
-    Words {
-        noun: "group",
-        line: "<@ =",
-        rule: " ",
-    },
-    Words {
-        noun: "supported_signature_algorithms",
-        line: "<@, # $",
-        rule: "a list takes an even number of bytes, 2 or more",
-    },
-    Words {
-        noun: "algorithm",
-        line: "<@ =",
-        rule: " ",
-    },
-    Words {
-        noun: "protocol_name_list",
-        line: "<@, # $",
-        rule: "a list of one name or more",
-    },
-    Words {
-        noun: "protocol_name",
-        line: "<@, # $ \"",
-        rule: "a name has 1 byte or more",
-    },
-    Words {
-        noun: "version_list",
-        line: "<@, # $",
-        rule: "a list takes an even number of bytes, 2 or more",
-    },
-    Words {
-        noun: "version",
-        line: "<@ =",
-        rule: " ",
-    },
-    Words {
-        noun: "client_shares",
-        line: "<@, # $",
-        rule: " ",
-    },
-    Words {
-        noun: "key_share",
-        line: "<@ =, # $",
-        rule: "a key has 1 byte or more",
-    },
-    Words {
-        noun: "parameter",
-        line: "<@ =, # $: %",
-        rule: " ",
-    },
-    Words {
-        noun: "body",
-        line: "<@",
-        rule: " ",
-    },
-    Words {
-        noun: "rest",
-        line: "<@",
-        rule: " ",
-    },
-    Words {
-        noun: "rest",
-        line: "<@",
-        rule: " ",
-    },
-    Words {
-        noun: "end",
-        line: "<@",
-        rule: "the hello ends before this field",
-    },
-];
 
 // What a line says that is cut, one of another message, one with a name that is not shown, and a parameter that is no number.
 const CUT_LINE: &str = "<@";
@@ -186,9 +37,68 @@ const TWICE_OR_EMPTY: &str = "this type stands twice, or its body may not be emp
 // The ids of parameters whose value is a number (RFC 9000, section 18.2; RFC 9221).
 const NUMBERS: [u64; 12] = [1, 3, 4, 5, 6, 7, 8, 9, 10, 11, 14, 32];
 
-// No other number is a kind of line.
-fn words_for(what: usize) -> Words {
-    if what < 27 { WORDS[what] } else { WORDS[0] }
+// What a kind of line is called.
+fn noun(kind: Kind) -> &'static str {
+    match kind {
+        Kind::MsgType => "msg_type",
+        Kind::Length => "length",
+        Kind::LegacyVersion => "legacy_version",
+        Kind::Random => "random",
+        Kind::LegacySessionId => "legacy_session_id",
+        Kind::CipherSuites => "cipher_suites",
+        Kind::Suite => "suite",
+        Kind::LegacyCompressionMethods => "legacy_compression_methods",
+        Kind::ExtensionBlock => "extension_block",
+        Kind::Extension => "extension",
+        Kind::ServerNameList => "server_name_list",
+        Kind::ServerName => "server_name",
+        Kind::NamedGroupList => "named_group_list",
+        Kind::Group => "group",
+        Kind::SupportedSignatureAlgorithms => "supported_signature_algorithms",
+        Kind::Algorithm => "algorithm",
+        Kind::ProtocolNameList => "protocol_name_list",
+        Kind::ProtocolName => "protocol_name",
+        Kind::VersionList => "version_list",
+        Kind::Version => "version",
+        Kind::ClientShares => "client_shares",
+        Kind::KeyShare => "key_share",
+        Kind::Parameter => "parameter",
+        Kind::Unread => "body",
+        Kind::Rest | Kind::After => "rest",
+        Kind::End => "end",
+    }
+}
+
+// What its line says; most say how long they are.
+fn line_words(kind: Kind) -> &'static str {
+    match kind {
+        Kind::MsgType => "<@ client_hello",
+        Kind::LegacyVersion | Kind::Suite | Kind::Group | Kind::Algorithm | Kind::Version => "<@ =",
+        Kind::Random | Kind::Unread | Kind::Rest | Kind::After | Kind::End => "<@",
+        Kind::Extension | Kind::KeyShare => "<@ =, # $",
+        Kind::ServerName | Kind::ProtocolName => "<@, # $ \"",
+        Kind::Parameter => "<@ =, # $: %",
+        _ => "<@, # $",
+    }
+}
+
+// The rule of document 01 that it breaks where it is as long as it says.
+fn rule(kind: Kind) -> &'static str {
+    match kind {
+        Kind::LegacySessionId => "a session id has at most 32 bytes",
+        Kind::CipherSuites => "suites take an even number of bytes, 2 or more",
+        Kind::LegacyCompressionMethods => "compression takes 1 byte or more",
+        Kind::Extension => "this type stands twice",
+        Kind::ServerNameList => "a list of one name",
+        Kind::ServerName => "one entry of type 0, with a name of 1 byte or more that ends the list",
+        Kind::NamedGroupList | Kind::SupportedSignatureAlgorithms | Kind::VersionList =>
+            "a list takes an even number of bytes, 2 or more",
+        Kind::ProtocolNameList => "a list of one name or more",
+        Kind::ProtocolName => "a name has 1 byte or more",
+        Kind::KeyShare => "a key has 1 byte or more",
+        Kind::End => "the hello ends before this field",
+        _ => " ",
+    }
 }
 
 fn part_name(part: Part) -> &'static str {
@@ -229,14 +139,16 @@ fn is_client_hello(bytes: &[u8]) -> bool {
 }
 
 // Whether a line's length must be just what is left: the hello's, the block's, and those of lists in a body.
-fn is_exact(what: usize) -> bool {
-    what == LENGTH || what == 8 || row_of(what).part == Part::Body && what % 2 == 0
+fn is_exact(kind: Kind) -> bool {
+    kind == Kind::Length
+        || kind == Kind::ExtensionBlock
+        || row_of(kind).part == Part::Body && kind != Kind::Unread
 }
 
 // A line of a hello: its kind, its bytes, what was found of it, and how many bytes of its part are left after its front.
 #[derive(Clone, Copy, Debug)]
 pub struct Shown<'a> {
-    pub what: usize,
+    pub kind: Kind,
     pub bytes: &'a [u8],
     pub line: Line,
     pub left: u64,
@@ -245,7 +157,7 @@ pub struct Shown<'a> {
 impl<'a> Shown<'a> {
     // The number that has a name in a registry: a parameter's id, or the first two bytes.
     fn registered(self) -> u64 {
-        if self.what == PARAMETER {
+        if self.kind == Kind::Parameter {
             return varint_at(self.bytes);
         }
         if self.bytes.len() < 2 {
@@ -259,36 +171,41 @@ impl<'a> Shown<'a> {
         if self.line.front == 0 {
             return CUT_LINE;
         }
-        match self.what {
-            MSG_TYPE if !is_client_hello(self.bytes) => OTHER_MESSAGE,
-            PARAMETER if !is_number(id, rest) => NO_NUMBER,
-            NAME | PROTOCOL if !is_shown(rest) => NO_NAME,
-            _ => words_for(self.what).line,
+        match self.kind {
+            Kind::MsgType if !is_client_hello(self.bytes) => OTHER_MESSAGE,
+            Kind::Parameter if !is_number(id, rest) => NO_NUMBER,
+            Kind::ServerName | Kind::ProtocolName if !is_shown(rest) => NO_NAME,
+            _ => line_words(self.kind),
         }
     }
 
     // A body that is not empty has a place of its own; where the reader stopped at the extension itself, its type stands twice or its
     // body is empty.
     fn may_be_empty(self) -> bool {
-        self.line.said == 0 && 2 <= self.bytes.len() && slot(be16(self.bytes)) < 6
+        self.line.said == 0
+            && 2 <= self.bytes.len()
+            && !matches!(
+                walk::Kind::of(be16(self.bytes)),
+                walk::Kind::Parameters | walk::Kind::Other
+            )
     }
 
     // Why a field, an extension or an entry is not in its form: 18 to 21.
     fn misfit(self) -> &'static str {
         let said = self.line.said;
-        if self.what == END {
-            return words_for(self.what).rule;
+        if self.kind == Kind::End {
+            return rule(self.kind);
         }
         if self.line.front == 0 {
             return CUT;
         }
-        if self.left < said || is_exact(self.what) && said != self.left {
+        if self.left < said || is_exact(self.kind) && said != self.left {
             return SAYS;
         }
-        if self.what == EXTENSION && self.may_be_empty() {
+        if self.kind == Kind::Extension && self.may_be_empty() {
             return TWICE_OR_EMPTY;
         }
-        words_for(self.what).rule
+        rule(self.kind)
     }
 
     // Why the reader stopped at it.
@@ -297,7 +214,7 @@ impl<'a> Shown<'a> {
             Refusal::HelloTooLong => TOO_LONG,
             Refusal::NoClientHello => NO_CLIENT_HELLO,
             Refusal::ParameterTwice => ID_TWICE,
-            Refusal::ListTooLong if self.what == PROTOCOL => PAST_16,
+            Refusal::ListTooLong if self.kind == Kind::ProtocolName => PAST_16,
             Refusal::ListTooLong => PAST_64,
             _ => self.misfit(),
         }
@@ -308,13 +225,13 @@ impl<'a> Shown<'a> {
         requires { self.line.front ≤ length self.bytes.now }
     {
         let front = self.line.front;
-        let row = row_of(self.what);
+        let row = row_of(self.kind);
         let id = self.registered();
         Told {
             words: self.words(id, &self.bytes[front..]),
             why: stop.map_or("", |s| self.reason(s.refusal)),
             depth: depth(row.part),
-            noun: words_for(self.what).noun,
+            noun: noun(self.kind),
             part: part_name(row.part),
             registry: row.registry,
             id,

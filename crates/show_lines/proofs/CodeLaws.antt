@@ -21,11 +21,12 @@ use Rattle.fingerprint.specs.Code.{slot}
 use Rattle.fingerprint_parameters.proofs.OneParameter.{head-within}
 use Rattle.show_lines.specs.Grammar.{grammar, column, body_line}
 use Rattle.show_lines.specs.Rows.{form_number}
+use Rattle.show_lines.specs.declared.grammar.Kind.{Kind}
 use Rattle.show_lines.specs.declared.grammar.Form.{Form}
 use Rattle.show_lines.specs.declared.grammar.Form.TheVariants as form
 use Rattle.show_lines.specs.Lines.{front_of, width_of, is_vector, part_end, line, parameter_front, fixed_front, line_from, line_of, line_at}
 use Rattle.show_lines.specs.Lines.{inside, settle, opened, due, next, Ready, Reaches}
-use Rattle.show_lines.specs.declared.cursor.Cursor.{Cursor}
+use Rattle.show_lines.specs.Lines.{Cursor}
 use Rattle.show_lines.specs.declared.cursor.Line.{Line}
 use Rattle.show_lines.proofs.GrammarLaws.{width-in-front, width-most}
 use Rattle.show_lines.proofs.LineLaws.{line-reaches, extension-front, next-at, ready-next}
@@ -88,12 +89,12 @@ module _ (at : ℕ) (bs : List ℕ) where
 pub no_vector : (f : Form) → (f ≡ form.Vector → ⊥) → form_number f ≡ 1 → ⊥
 no_vector form.Plain h e = omega (arith, e)
 no_vector form.Vector h e = h refl
-no_vector form.Opens h e = omega (arith, e)
+no_vector (form.Opens k) h e = omega (arith, e)
 
-pub no-opens : (f : Form) → (f ≡ form.Opens → ⊥) → form_number f ≡ 2 → ⊥
+pub no-opens : (f : Form) → ((k : Kind) → f ≡ form.Opens k → ⊥) → form_number f ≡ 2 → ⊥
 no-opens form.Plain h e = omega (arith, e)
 no-opens form.Vector h e = omega (arith, e)
-no-opens form.Opens h e = h refl
+no-opens (form.Opens k) h e = h k refl
 
 module _ (what at : ℕ) (rest : List ℕ) where
   pub line-parameter : what ≡ 22 → line_from 22 at rest (parameter_front rest) ≡ line_of what rest at

@@ -1,10 +1,10 @@
 -- Rules of the grammar's rows, each by one test that is computed over them all. Assumes nothing.
 use Prim.Native.Nat.{ℕ, zero, suc, ◌≤◌}
-use mathlib.Core.Path.{◌≡◌, refl, ap}
+use mathlib.Core.Path.{◌≡◌, refl}
 use mathlib.Core.Bool.{Bool, true, ◌&&◌}
 use mathlib.Core.List.{List, [], ◌∷◌}
 use borrow.Author.Tests.{leb-true}
-use lib.ListN.{get_or, get_or-eq_default}
+use lib.ListN.{get_or}
 use lib.Dec.{leb}
 use Rattle.wire.proofs.SumLaws.{and_left, and_right}
 use Rattle.show_lines.specs.Grammar.{grammar, column}
@@ -42,8 +42,3 @@ pub width-most : (what : ℕ) → width_of what ≤ 3
 unfolding column
 width-most what =
     leb-true (width_of what) 3 (and_right (leb (width_of what) (front_of what)) (leb (width_of what) 3) (row-measured what))
-
--- no kind of line has such a number
-pub no_row : (what k : ℕ) → 27 ≤ what → column what k ≡ 0
-unfolding column grammar
-no_row what k h = ap (λ (r : List ℕ). get_or r k 0) (get_or-eq_default grammar [] h)

@@ -1,4 +1,5 @@
 pub mod GrammarLaws
+pub mod KindLaws
 pub mod PartLaws
 -- the definitions alone
 pub mod LineLaws

@@ -27,7 +27,7 @@ use Rattle.fingerprint_bodies.proofs.RoundTrip.{varint-back}
 use Rattle.show_lines.specs.Grammar.{grammar, column}
 use Rattle.show_lines.specs.Lines.{front_of, is_vector, opens, part_end, Front, line, parameter_front, fixed_front, line_from, line_of}
 use Rattle.show_lines.specs.Lines.{line_at, inside, opened, due, next, start, Row, listed, most, rows, Tiles, count_holding, Ready, Reaches}
-use Rattle.show_lines.specs.declared.cursor.Cursor.{Cursor}
+use Rattle.show_lines.specs.Lines.{Cursor}
 use Rattle.show_lines.specs.declared.cursor.Line.{Line}
 use Rattle.show_lines.proofs.PartLaws.{cond-elim, part-within, Placed, settle-ready, opened-within}
 

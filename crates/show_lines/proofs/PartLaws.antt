@@ -8,7 +8,7 @@ use borrow.Author.Tests.{ne_eqb, eqb-true, eqb-false, lt-ltb, ltb-true}
 use lib.Dec.{eqb, ltb}
 use Rattle.show_lines.specs.Grammar.{grammar, column}
 use Rattle.show_lines.specs.Lines.{part_of, by_part, part_end, in_hello, after_body, after_list, settled, settle, opened, Ready}
-use Rattle.show_lines.specs.declared.cursor.Cursor.{Cursor}
+use Rattle.show_lines.specs.Lines.{Cursor}
 
 -- what holds of both choices holds of the one that a test makes
 pub cond-elim : {A : Type 0} (P : A → Type 0) (t : Bool) (x y : A) → (t ≡ true → P x) → (t ≡ false → P y) → P (cond t x y)

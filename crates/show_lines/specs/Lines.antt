@@ -9,8 +9,15 @@ use Rattle.fingerprint_bodies.specs.Entries.{bind}
 use Rattle.fingerprint_bodies.specs.Forms.{varint_at}
 use Rattle.fingerprint.specs.Code.{slot}
 use Rattle.show_lines.specs.Grammar.{column, body_line}
-use Rattle.show_lines.specs.declared.cursor.Cursor.{Cursor}
 use Rattle.show_lines.specs.declared.cursor.Line.{Line}
+
+-- a place in the hello, what stands there, and the ends of the list, the body and the block that were last opened
+pub record Cursor : Type 0 where
+  pub at : ℕ
+  pub what : ℕ
+  pub list : ℕ
+  pub body : ℕ
+  pub block : ℕ
 
 -- the columns of the grammar
 abbrev pub front_of : ℕ → ℕ

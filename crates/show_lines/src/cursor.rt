@@ -1,21 +1,21 @@
 // One line after the other: where a line ends, and what stands after it.
 ghost use Rattle.std.specs.Prelude.{◌≡◌, ◌+◌, ◌≤◌, ◌<◌, min, length};
 ghost use Rattle.wire.specs.Numbers as numbers;
+ghost use Rattle.show_lines.specs.Grammar.{column};
 ghost use Rattle.show_lines.specs.Lines as specs;
 ghost use Rattle.show_lines.specs.Lines.{part_end, line, line_from, parameter_front, line_of, line_at, Ready, Reaches};
 ghost use Rattle.show_lines.specs.Lines.{after_list, after_body, in_hello};
+ghost use Rattle.show_lines.specs.Rows.{kind_number, cursor_of};
 
-use crate::grammar::{
-    AFTER, COMPRESSION, END, EXTENSION, Form, MSG_TYPE, PARAMETER, Part, REST, SUITES, body_line,
-    row_of,
-};
+use crate::grammar::{Form, Kind, Part, body_line, row_of};
+use fingerprint::walk;
 use wire::be16;
 
 // A place in the hello, what stands there, and the ends of the parts around it: the list, the body and the block that were last opened.
 #[derive(Clone, Copy, PartialEq, Eq, Debug)]
 pub struct Cursor {
     pub at: usize,
-    pub what: usize,
+    pub kind: Kind,
     pub list: usize,
     pub body: usize,
     pub block: usize,
@@ -31,9 +31,9 @@ pub struct Line {
 
 // The end of the part in which a line stands.
 pub fn part_end(hello: &[u8], c: Cursor) -> usize
-    ensures { result ≡ part_end (length hello.now) c }
+    ensures { result ≡ part_end (length hello.now) (cursor_of c) }
 {
-    match row_of(c.what).part {
+    match row_of(c.kind).part {
         Part::Hello => hello.len(),
         Part::Suites => c.list,
         Part::Block => c.block,
@@ -42,7 +42,7 @@ pub fn part_end(hello: &[u8], c: Cursor) -> usize
     }
 }
 
-// The number in up to three bytes.
+// The number in up to three bytes; no method of the library reads one, two or three.
 fn number(bytes: &[u8]) -> u64
     requires { length bytes.now ≤ 3 }
     ensures { (result ≡ numbers.number 256 bytes.now) × (result < 16777216) }
@@ -104,15 +104,15 @@ fn vector(left: usize, at: usize, front: usize, said: u64) -> Line
 }
 
 // The line at a place: the bytes from there to the end of its part.
-fn line_of(what: usize, rest: &[u8], at: usize) -> Line
+fn line_of(kind: Kind, rest: &[u8], at: usize) -> Line
     requires { at + length rest.now ≤ 65536 }
-    ensures { result ≡ line_of what rest.now at }
+    ensures { result ≡ line_of (kind_number kind) rest.now at }
 {
-    if what == PARAMETER {
+    if kind == Kind::Parameter {
         return parameter(rest, at);
     }
-    let kind = row_of(what);
-    let front = kind.front;
+    let row = row_of(kind);
+    let front = row.front;
     if front == 0 {
         return Line {
             end: at + rest.len(),
@@ -127,9 +127,9 @@ fn line_of(what: usize, rest: &[u8], at: usize) -> Line
             said: 0,
         };
     }
-    let width = kind.width;
+    let width = row.width;
     let said = number(&rest[front - width..front]);
-    match kind.form {
+    match row.form {
         Form::Vector => vector(rest.len(), at, front, said),
         _ => Line {
             end: at + front,
@@ -140,58 +140,58 @@ fn line_of(what: usize, rest: &[u8], at: usize) -> Line
 }
 
 pub fn line_at(hello: &[u8], c: Cursor) -> Line
-    requires { (length hello.now ≤ 65536) × Ready (length hello.now) c × (c.at < length hello.now) }
-    ensures { (result ≡ line_at hello.now c) × Reaches (length hello.now) c result }
+    requires { (length hello.now ≤ 65536) × Ready (length hello.now) (cursor_of c) × (c.at < length hello.now) }
+    ensures { (result ≡ line_at hello.now (cursor_of c)) × Reaches (length hello.now) (cursor_of c) result }
 {
     let at = c.at;
     let end = part_end(hello, c);
-    line_of(c.what, &hello[at..end], at)
+    line_of(c.kind, &hello[at..end], at)
 }
 
 // What stands at a place after a body's list: the rest of the body, the next extension, the rest of the hello, or its end.
-fn after_list(n: usize, at: usize, body: usize, block: usize) -> usize
-    ensures { result ≡ after_list n at body block }
+fn after_list(n: usize, at: usize, body: usize, block: usize) -> Kind
+    ensures { kind_number result ≡ after_list n at body block }
 {
     if at < body {
-        return REST;
+        return Kind::Rest;
     }
     after_body(n, at, block)
 }
 
-fn after_body(n: usize, at: usize, block: usize) -> usize
-    ensures { result ≡ after_body n at block }
+fn after_body(n: usize, at: usize, block: usize) -> Kind
+    ensures { kind_number result ≡ after_body n at block }
 {
     if at < block {
-        return EXTENSION;
+        return Kind::Extension;
     }
-    in_hello(n, at, AFTER)
+    in_hello(n, at, Kind::After)
 }
 
-fn in_hello(n: usize, at: usize, what: usize) -> usize
-    ensures { result ≡ in_hello n at what }
+fn in_hello(n: usize, at: usize, kind: Kind) -> Kind
+    ensures { kind_number result ≡ in_hello n at (kind_number kind) }
 {
-    if at < n { what } else { END }
+    if at < n { kind } else { Kind::End }
 }
 
 // What stands at the cursor's place: what is due, where its part goes on; else what stands after that part.
-fn settled(n: usize, c: Cursor) -> usize
-    ensures { result ≡ specs.settled n c }
+fn settled(n: usize, c: Cursor) -> Kind
+    ensures { kind_number result ≡ specs.settled n (cursor_of c) }
 {
-    match row_of(c.what).part {
-        Part::Hello => in_hello(n, c.at, c.what),
+    match row_of(c.kind).part {
+        Part::Hello => in_hello(n, c.at, c.kind),
         Part::Suites => if c.at < c.list {
-            c.what
+            c.kind
         } else {
-            in_hello(n, c.at, COMPRESSION)
+            in_hello(n, c.at, Kind::LegacyCompressionMethods)
         },
         Part::Block => after_body(n, c.at, c.block),
         Part::Body => if c.at < c.body {
-            c.what
+            c.kind
         } else {
             after_body(n, c.at, c.block)
         },
         Part::List => if c.at < c.list {
-            c.what
+            c.kind
         } else {
             after_list(n, c.at, c.body, c.block)
         },
@@ -199,58 +199,59 @@ fn settled(n: usize, c: Cursor) -> usize
 }
 
 fn settle(n: usize, c: Cursor) -> Cursor
-    ensures { result ≡ specs.settle n c }
+    ensures { cursor_of result ≡ specs.settle n (cursor_of c) }
 {
     Cursor {
-        what: settled(n, c),
+        kind: settled(n, c),
         ..c
     }
 }
 
-// The kind of line inside the one at a place. An extension's type says it; suites that say more than is left are not listed.
-fn inside(hello: &[u8], c: Cursor, line: Line) -> usize
-    requires { (line.end ≤ length hello.now) × (c.at + line.front ≤ line.end) × (0 < line.front) × (line ≡ line_at hello.now c) }
-    ensures { result ≡ specs.inside hello.now c line }
+// The kind of line inside the one at a place, which its row calls `first`. An extension's type says it; suites that say more than is
+// left are not listed.
+fn inside(hello: &[u8], c: Cursor, line: Line, first: Kind) -> Kind
+    requires { (line.end ≤ length hello.now) × (c.at + line.front ≤ line.end) × (0 < line.front) × (line ≡ line_at hello.now (cursor_of c)) × (kind_number first ≡ column (kind_number c.kind) 4) }
+    ensures { kind_number result ≡ specs.inside hello.now (cursor_of c) line }
 {
     let at = c.at;
-    if c.what == EXTENSION {
-        return body_line(fingerprint::walk::slot(be16(&hello[at..])));
+    match c.kind {
+        Kind::Extension => body_line(walk::Kind::of(be16(&hello[at..]))),
+        Kind::CipherSuites => if ((hello.len() - line.end) as u64) < line.said {
+            Kind::After
+        } else {
+            first
+        },
+        _ => first,
     }
-    if c.what == SUITES {
-        if ((hello.len() - line.end) as u64) < line.said {
-            return AFTER;
-        }
-    }
-    row_of(c.what).inside
 }
 
 // The cursor at the first line inside, where what is inside ends at `end`.
-fn opened(c: Cursor, at: usize, what: usize, end: usize) -> Cursor
-    ensures { result ≡ specs.opened c at what end }
+fn opened(c: Cursor, at: usize, kind: Kind, end: usize) -> Cursor
+    ensures { cursor_of result ≡ specs.opened (cursor_of c) at (kind_number kind) end }
 {
-    match row_of(what).part {
-        Part::Hello => Cursor { at, what, ..c },
+    match row_of(kind).part {
+        Part::Hello => Cursor { at, kind, ..c },
         Part::Suites => Cursor {
             at,
-            what,
+            kind,
             list: end,
             ..c
         },
         Part::Block => Cursor {
             at,
-            what,
+            kind,
             block: end,
             ..c
         },
         Part::Body => Cursor {
             at,
-            what,
+            kind,
             body: end,
             ..c
         },
         Part::List => Cursor {
             at,
-            what,
+            kind,
             list: end,
             ..c
         },
@@ -258,17 +259,15 @@ fn opened(c: Cursor, at: usize, what: usize, end: usize) -> Cursor
 }
 
 // What is due after a line that opens nothing. A first byte that is not 01 begins no ClientHello.
-fn due(hello: &[u8], c: Cursor) -> usize
+fn due(hello: &[u8], c: Cursor) -> Kind
     requires { c.at < length hello.now }
-    ensures { result ≡ specs.due hello.now c }
+    ensures { kind_number result ≡ specs.due hello.now (cursor_of c) }
 {
     let at = c.at;
-    if c.what == MSG_TYPE {
-        if hello[at] != 1 {
-            return AFTER;
-        }
+    match c.kind {
+        Kind::MsgType if hello[at] != 1 => Kind::After,
+        _ => row_of(c.kind).then,
     }
-    row_of(c.what).then
 }
 
 // The least of what is left after a line and what it says.
@@ -284,22 +283,22 @@ fn inner_end(line: Line, limit: usize) -> usize
 
 // The cursor after a line.
 pub fn next(hello: &[u8], c: Cursor, line: Line) -> Cursor
-    requires { (length hello.now ≤ 65536) × Ready (length hello.now) c × (c.at < length hello.now) × (line ≡ line_at hello.now c) × Reaches (length hello.now) c line }
-    ensures { (result ≡ specs.next hello.now c line) × Ready (length hello.now) result × (c.at < result.at) }
+    requires { (length hello.now ≤ 65536) × Ready (length hello.now) (cursor_of c) × (c.at < length hello.now) × (line ≡ line_at hello.now (cursor_of c)) × Reaches (length hello.now) (cursor_of c) line }
+    ensures { (cursor_of result ≡ specs.next hello.now (cursor_of c) line) × Ready (length hello.now) (cursor_of result) × (c.at < result.at) }
 {
     let n = hello.len();
-    match row_of(c.what).form {
-        Form::Opens if 0 < line.front => {
+    match row_of(c.kind).form {
+        Form::Opens(first) if 0 < line.front => {
             let end = inner_end(line, part_end(hello, c));
-            settle(n, opened(c, line.end, inside(hello, c, line), end))
+            settle(n, opened(c, line.end, inside(hello, c, line, first), end))
         }
         _ => {
-            let what = due(hello, c);
+            let kind = due(hello, c);
             settle(
                 n,
                 Cursor {
                     at: line.end,
-                    what,
+                    kind,
                     ..c
                 },
             )
@@ -309,13 +308,13 @@ pub fn next(hello: &[u8], c: Cursor, line: Line) -> Cursor
 
 // The cursor at the first line.
 pub fn start(hello: &[u8]) -> Cursor
-    ensures { (result ≡ specs.start hello.now) × Ready (length hello.now) result × (result.at ≡ 0) }
+    ensures { (cursor_of result ≡ specs.start hello.now) × Ready (length hello.now) (cursor_of result) × (result.at ≡ 0) }
 {
     settle(
         hello.len(),
         Cursor {
             at: 0,
-            what: MSG_TYPE,
+            kind: Kind::MsgType,
             list: 0,
             body: 0,
             block: 0,

@@ -1,41 +1,59 @@
 // What may stand in a ClientHello, one row for each kind of line (RFC 8446, section 4.1.2, and document 01, "Reading").
 
 ghost use Rattle.std.specs.Prelude.{◌≡◌};
+ghost use Rattle.fingerprint.specs.Code.{meant, slot};
 ghost use Rattle.show_lines.specs.Grammar as specs;
-ghost use Rattle.show_lines.specs.Rows.{Stands};
+ghost use Rattle.show_lines.specs.Rows.{kind_number, Stands};
 
 use Form::{Opens, Plain, Vector};
+use Kind::{
+    After, Algorithm, CipherSuites, ClientShares, End, Extension, ExtensionBlock, Group, KeyShare,
+    LegacyCompressionMethods, LegacySessionId, LegacyVersion, Length, MsgType, NamedGroupList,
+    Parameter, ProtocolName, ProtocolNameList, Random, Rest, ServerName, ServerNameList, Suite,
+    SupportedSignatureAlgorithms, Unread, Version, VersionList,
+};
 use Part::{Block, Body, Hello, List, Suites};
+use fingerprint::walk;
 
-// The kinds of lines.
-pub const MSG_TYPE: usize = 0;
+// The kinds of lines. `Unread` is a body that is not read, `Rest` what is left of a body, `After` what is left of the hello.
+#[derive(Clone, Copy, PartialEq, Eq, Debug)]
+pub enum Kind {
+    MsgType,
+    Length,
+    LegacyVersion,
+    Random,
+    LegacySessionId,
+    CipherSuites,
+    Suite,
+    LegacyCompressionMethods,
+    ExtensionBlock,
+    Extension,
+    ServerNameList,
+    ServerName,
+    NamedGroupList,
+    Group,
+    SupportedSignatureAlgorithms,
+    Algorithm,
+    ProtocolNameList,
+    ProtocolName,
+    VersionList,
+    Version,
+    ClientShares,
+    KeyShare,
+    Parameter,
+    Unread,
+    Rest,
+    After,
+    End,
+}
 
-pub const LENGTH: usize = 1;
-
-pub const SUITES: usize = 5;
-
-pub const COMPRESSION: usize = 7;
-
-pub const EXTENSION: usize = 9;
-
-pub const NAME: usize = 11;
-
-pub const PROTOCOL: usize = 17;
-
-pub const PARAMETER: usize = 22;
-
-pub const REST: usize = 24;
-
-pub const AFTER: usize = 25;
-
-pub const END: usize = 26;
-
-// Where those bytes stand whose count is a line's length: there are none, on the line itself, or on lines of their own.
+// Where those bytes stand whose count is a line's length: there are none, on the line itself, or on lines of their own, of which the first
+// is of some kind.
 #[derive(Clone, Copy, PartialEq, Eq, Debug)]
 pub enum Form {
     Plain,
     Vector,
-    Opens,
+    Opens(Kind),
 }
 
 // The part in which a line stands.
@@ -60,15 +78,14 @@ pub enum Registry {
 }
 
 // What may stand on a line: the bytes of its front, 0 where it takes all that is left; how many of these, the last, are a length; its
-// form and part; the kind of line inside, and the kind that follows; and the registry of its number.
+// form and part; the kind of line that follows; and the registry of its number.
 #[derive(Clone, Copy, PartialEq, Eq, Debug)]
 pub struct Row {
     pub front: usize,
     pub width: usize,
     pub form: Form,
     pub part: Part,
-    pub inside: usize,
-    pub then: usize,
+    pub then: Kind,
     pub registry: Option<Registry>,
 }
 
@@ -77,62 +94,70 @@ fn entry(
     width: usize,
     form: Form,
     part: Part,
-    inside: usize,
-    then: usize,
+    then: Kind,
     registry: Option<Registry>,
 ) -> Row
-    ensures { result ≡ record { front = front; width = width; form = form; part = part; inside = inside; then = then; registry = registry } }
+    ensures { result ≡ record { front = front; width = width; form = form; part = part; then = then; registry = registry } }
 {
     Row {
         front,
         width,
         form,
         part,
-        inside,
         then,
         registry,
     }
 }
 
 // The row of a kind of line.
-pub fn row_of(what: usize) -> Row
-    ensures { Stands what result }
+#[tactic(auto, unfolding(crate::specs::Grammar::column, crate::specs::Grammar::grammar))]
+pub fn row_of(kind: Kind) -> Row
+    ensures { Stands (kind_number kind) result }
 {
-    match what {
-        0 => entry(1, 0, Plain, Hello, 0, 1, None), // msg_type
-        1 => entry(3, 3, Plain, Hello, 0, 2, None), // length
-        2 => entry(2, 0, Plain, Hello, 0, 3, Some(Registry::Versions)), // legacy_version
-        3 => entry(32, 0, Plain, Hello, 0, 4, None), // random
-        4 => entry(1, 1, Vector, Hello, 0, 5, None), // legacy_session_id
-        5 => entry(2, 2, Opens, Hello, 6, 7, None), // cipher_suites
-        6 => entry(2, 0, Plain, Suites, 0, 6, Some(Registry::Suites)), // suite
-        7 => entry(1, 1, Vector, Hello, 0, 8, None), // legacy_compression_methods
-        8 => entry(2, 2, Opens, Hello, 9, 25, None), // extension_block
-        9 => entry(4, 2, Opens, Block, 23, 9, Some(Registry::Types)), // extension; inside is what its type says
-        10 => entry(2, 2, Opens, Body, 11, 24, None), // server_name_list
-        11 => entry(3, 2, Vector, List, 0, 11, None), // server_name
-        12 => entry(2, 2, Opens, Body, 13, 24, None), // named_group_list
-        13 => entry(2, 0, Plain, List, 0, 13, Some(Registry::Groups)), // group
-        14 => entry(2, 2, Opens, Body, 15, 24, None), // supported_signature_algorithms
-        15 => entry(2, 0, Plain, List, 0, 15, Some(Registry::Algorithms)), // algorithm
-        16 => entry(2, 2, Opens, Body, 17, 24, None), // protocol_name_list
-        17 => entry(1, 1, Vector, List, 0, 17, None), // protocol_name
-        18 => entry(1, 1, Opens, Body, 19, 24, None), // version_list
-        19 => entry(2, 0, Plain, List, 0, 19, Some(Registry::Versions)), // version
-        20 => entry(2, 2, Opens, Body, 21, 24, None), // client_shares
-        21 => entry(4, 2, Vector, List, 0, 21, Some(Registry::Groups)), // key_share
-        22 => entry(0, 0, Vector, Body, 0, 22, Some(Registry::Parameters)), // parameter; its front is two varints
-        23 => entry(0, 0, Plain, Body, 0, 24, None), // body that is not read
-        24 => entry(0, 0, Plain, Body, 0, 24, None), // rest of a body
-        25 => entry(0, 0, Plain, Hello, 0, 25, None), // rest of the hello
-        26 => entry(0, 0, Plain, Hello, 0, 26, None), // end
-        _ => entry(0, 0, Plain, Hello, 0, 0, None),
+    match kind {
+        MsgType => entry(1, 0, Plain, Hello, Length, None),
+        Length => entry(3, 3, Plain, Hello, LegacyVersion, None),
+        LegacyVersion => entry(2, 0, Plain, Hello, Random, Some(Registry::Versions)),
+        Random => entry(32, 0, Plain, Hello, LegacySessionId, None),
+        LegacySessionId => entry(1, 1, Vector, Hello, CipherSuites, None),
+        CipherSuites => entry(2, 2, Opens(Suite), Hello, LegacyCompressionMethods, None),
+        Suite => entry(2, 0, Plain, Suites, Suite, Some(Registry::Suites)),
+        LegacyCompressionMethods => entry(1, 1, Vector, Hello, ExtensionBlock, None),
+        ExtensionBlock => entry(2, 2, Opens(Extension), Hello, After, None),
+        Extension => entry(4, 2, Opens(Unread), Block, Extension, Some(Registry::Types)), // inside is what its type says
+        ServerNameList => entry(2, 2, Opens(ServerName), Body, Rest, None),
+        ServerName => entry(3, 2, Vector, List, ServerName, None),
+        NamedGroupList => entry(2, 2, Opens(Group), Body, Rest, None),
+        Group => entry(2, 0, Plain, List, Group, Some(Registry::Groups)),
+        SupportedSignatureAlgorithms => entry(2, 2, Opens(Algorithm), Body, Rest, None),
+        Algorithm => entry(2, 0, Plain, List, Algorithm, Some(Registry::Algorithms)),
+        ProtocolNameList => entry(2, 2, Opens(ProtocolName), Body, Rest, None),
+        ProtocolName => entry(1, 1, Vector, List, ProtocolName, None),
+        VersionList => entry(1, 1, Opens(Version), Body, Rest, None),
+        Version => entry(2, 0, Plain, List, Version, Some(Registry::Versions)),
+        ClientShares => entry(2, 2, Opens(KeyShare), Body, Rest, None),
+        KeyShare => entry(4, 2, Vector, List, KeyShare, Some(Registry::Groups)),
+        Parameter => entry(0, 0, Vector, Body, Parameter, Some(Registry::Parameters)), // its front is two varints
+        Unread => entry(0, 0, Plain, Body, Rest, None),
+        Rest => entry(0, 0, Plain, Body, Rest, None),
+        After => entry(0, 0, Plain, Hello, After, None),
+        End => entry(0, 0, Plain, Hello, End, None),
     }
 }
 
-// The kind of line inside an extension, by the place of its type among those that are read.
-pub fn body_line(place: usize) -> usize
-    ensures { result ≡ specs.body_line place }
+// The kind of line inside an extension, by the kind of its body.
+#[tactic(auto, unfolding(crate::specs::Grammar::body_line))]
+pub fn body_line(body: walk::Kind) -> Kind
+    ensures { kind_number result ≡ specs.body_line (slot (meant body)) }
 {
-    if place < 7 { 10 + 2 * place } else { 23 }
+    match body {
+        walk::Kind::Name => ServerNameList,
+        walk::Kind::Groups => NamedGroupList,
+        walk::Kind::Algorithms => SupportedSignatureAlgorithms,
+        walk::Kind::Protocols => ProtocolNameList,
+        walk::Kind::Versions => VersionList,
+        walk::Kind::Shares => ClientShares,
+        walk::Kind::Parameters => Parameter,
+        walk::Kind::Other => Unread,
+    }
 }

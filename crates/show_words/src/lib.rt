@@ -3,7 +3,7 @@
 // that `put_piece` names.
 #![tactic(auto)]
 
-ghost use Rattle.std.specs.Prelude.{◌≤◌, length};
+ghost use Rattle.std.specs.Prelude.{ℕ, ◌≤◌, length};
 ghost use Rattle.show_lines.specs.Lines.{row};
 ghost use Rattle.wire.specs.Refusals.{question};
 ghost use Rattle.wire.specs.Stops.{stop_of};
@@ -18,13 +18,12 @@ use show_lines::grammar::Registry;
 use show_marks::{is_marked, put_front};
 use wire::{Refusal, Stop};
 
-// Where a line stands: its first place, the first one after it, and what it is. A place has so many digits.
+// Where a line stands: its first place, and the first one after it. A place has so many digits.
 #[derive(Clone, Copy, PartialEq, Eq, Debug)]
 pub struct Spot {
     pub digits: usize,
     pub at: usize,
     pub past: usize,
-    pub what: usize,
 }
 
 // What is told of a line: its words and why the reader stopped at it, both phrases, and what these may name: how deep the line is
@@ -75,6 +74,7 @@ fn put_by_count(out: &mut [u8], n: u64, one: &str, other: &str) -> usize
     }
 }
 
+// Writes two blanks, and two more for each part around the line: a depth, and no kind.
 fn put_indent(out: &mut [u8], depth: usize) -> usize
     ensures { Wrote result out.old out.new }
 {
@@ -96,7 +96,7 @@ fn is_reserved(id: u64) -> bool {
     id % 31 == 27
 }
 
-// Writes the name that a registry gives to a number.
+// Writes the name that a registry gives to a number. A match with a line for each: a table of functions would be no plainer.
 fn put_registered(out: &mut [u8], registry: Option<Registry>, v: u64) -> usize
     ensures { Wrote result out.old out.new }
 {
@@ -123,7 +123,7 @@ fn put_after(out: &mut [u8], bytes: &[u8], front: usize) -> usize
     put_name(out, &bytes[front..])
 }
 
-// Writes what a byte of a phrase stands for.
+// Writes what a byte of a phrase stands for. A match with a line for each: a table of functions would be no plainer.
 fn put_piece(out: &mut [u8], piece: u8, told: Told, bytes: &[u8]) -> usize
     ensures { Wrote result out.old out.new }
 {
@@ -163,10 +163,10 @@ fn put_reason(out: &mut [u8], refusal: Refusal, told: Told, bytes: &[u8]) -> usi
     m + put_phrase(&mut out[m..], told.why, told, bytes)
 }
 
-// Writes the line of an input's bytes that stands at a place.
+// Writes the line of an input's bytes that stands at a place, of whatever kind.
 pub fn put_line(out: &mut [u8], input: &[u8], spot: Spot, stop: Option<Stop>, told: Told) -> usize
     requires { (spot.at ≤ length input.now) × (spot.at ≤ spot.past) }
-    ensures { LineWritten spot.digits input.now (stop_of stop) (row spot.at spot.past spot.what) result out.old out.new }
+    ensures { (what : ℕ) → LineWritten spot.digits input.now (stop_of stop) (row spot.at spot.past what) result out.old out.new }
 {
     let at = spot.at;
     let end = spot.past.min(input.len());

@@ -1,11 +1,7 @@
 use Rattle.fingerprint_bodies.specs.Entries.{or_empty}
 use Rattle.fingerprint_bodies.specs.Forms.{word_list}
 use Rattle.fingerprint_lists.proofs.ReadLaws.{groups-from}
-use native.Mathlib.Omega.{arith}
 use Rattle.fingerprint_lists.proofs.group_list.Goals as goal
-
-pub word_list-requires : goal.word_list-requires
-word_list-requires c = (omega arith, omega arith, c.requires)
 
 pub returns : goal.returns
 returns c =

@@ -31,29 +31,8 @@ loop-at-init c =
     let args = c.args in
     (names-start args.start args.list.now c.requires.0, filled-start 16 (span 0 0) (spans-start args.start args.list.now))
 
-pub overflow_add-items : goal.overflow_add-items
-overflow_add-items c = omega (arith, (turn c).within, c.requires.1)
-
-pub overflow_add-items-in-loop-at : goal.overflow_add-items-in-loop-at
-overflow_add-items-in-loop-at c = omega (arith, (turn c).within, c.requires.1)
-
-pub offset_bounds-items-k : goal.offset_bounds-items-k
-offset_bounds-items-k c = omega (arith, room c)
-
 pub bounds-items-k : goal.bounds-items-k
 bounds-items-k c = omega (arith, room c)
-
-pub overflow_add-at : goal.overflow_add-at
-overflow_add-at c = omega (arith, (turn c).within)
-
-pub overflow_add-at-in-loop-at : goal.overflow_add-at-in-loop-at
-overflow_add-at-in-loop-at c = omega (arith, (turn c).within)
-
-pub overflow_add-k : goal.overflow_add-k
-overflow_add-k c = omega (arith, room c)
-
-pub loop-at-smaller : goal.loop-at-smaller
-loop-at-smaller c = omega (arith, (turn c).forward, (turn c).within)
 
 pub loop-at-preserved : goal.loop-at-preserved
 loop-at-preserved c =

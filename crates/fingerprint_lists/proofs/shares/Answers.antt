@@ -27,20 +27,8 @@ loop-at-init c =
     let list = c.args.list.now in
     (shares-start list c.requires, filled-start 64 0 (groups-start list))
 
-pub offset_bounds-items-k : goal.offset_bounds-items-k
-offset_bounds-items-k c = omega (arith, room c)
-
 pub bounds-items-k : goal.bounds-items-k
 bounds-items-k c = omega (arith, room c)
-
-pub overflow_add-at : goal.overflow_add-at
-overflow_add-at c = omega (arith, (turn (goal.at.overflow_add-at c).In-Some).within)
-
-pub overflow_add-k : goal.overflow_add-k
-overflow_add-k c = omega (arith, room (goal.at.overflow_add-k c).In-Some)
-
-pub loop-at-smaller : goal.loop-at-smaller
-loop-at-smaller c = omega (arith, (turn (goal.at.loop-at-smaller c).In-Some).forward, (turn (goal.at.loop-at-smaller c).In-Some).within)
 
 pub loop-at-preserved : goal.loop-at-preserved
 loop-at-preserved c = ((turn (goal.at.loop-at-preserved c).In-Some).next, filled_next c.loop-at.invariant.1 (turn (goal.at.loop-at-preserved c).In-Some).first (few (goal.at.loop-at-preserved c).In-Some))

@@ -1,8 +1,7 @@
 -- The loop keeps `Filled`: the words before place i stand in the array. Assumes nothing.
 use mathlib.Core.Path.{refl, sym}
-use Prim.Native.Nat.{◌*◌, ◌/◌, ◌≤◌}
+use Prim.Native.Nat.{◌/◌, ◌≤◌}
 use lib.ListN.{length}
-use Rattle.wire.proofs.ListLaws.{length-part-to-end}
 use Rattle.fingerprint_bodies.specs.Forms.{words_in}
 use Rattle.fingerprint_lists.proofs.GoodLaws.{length-words_in}
 use Rattle.fingerprint_lists.proofs.FillLaws.{filled-start, filled_next, filled-end}
@@ -12,9 +11,6 @@ use Rattle.fingerprint_lists.proofs.words_in.Goals as goal
 
 pub loop-i-init : goal.loop-i-init
 loop-i-init c = filled-start 64 0 refl
-
-pub be16-requires : goal.be16-requires
-be16-requires c = omega (arith, length-part-to-end c.args.list.now (2 * c.loop-i.i), c.loop-i-test.true)
 
 pub loop-i-preserved : goal.loop-i-preserved
 loop-i-preserved c =

@@ -1,25 +1,11 @@
 -- The loop keeps: each id before place i is greater than the one before it. Assumes nothing.
 use Prim.Native.Nat.{ℕ, ◌+◌, ◌-◌}
 use mathlib.Core.Path.{◌≡◌, ap}
-use mathlib.Core.Logic.{⊎_elim}
 use native.Mathlib.Omega.{arith}
 use lib.ListN.{get_or}
 use Rattle.std.proofs.lemmas.List.Sorted.{IsNonDecreasingBy-from_sort}
-use Rattle.wire.proofs.ListLaws.{lt-or-le}
 use Rattle.fingerprint_order.proofs.SortedLaws.{risen-new, stands-twice}
 use Rattle.fingerprint_order.proofs.all_new.Goals as goal
-
-pub loop-i-init : goal.loop-i-init
-loop-i-init c = λ j h. absurd (omega (arith, h))
-
-pub loop-i-preserved : goal.loop-i-preserved
-loop-i-preserved c =
-    let l = c.loop-i in
-    let s = c.sort_unstable.new.self in
-    λ j h.
-    ⊎_elim (l.invariant j)
-    (λ last. let e : l.i ≡ j + 1 = omega (arith, h, last) in let f : l.i - 1 ≡ j = omega (arith, e) in rw (f, e) at c.if-ids-i.false)
-    (lt-or-le (j + 1) l.i)
 
 pub returns-then-ids-i : goal.returns-then-ids-i
 returns-then-ids-i c =

@@ -44,8 +44,3 @@ loop-i-preserved c =
       rw (one_more ids loop.i h) (marked_next loop.marks (take loop.i ids) (get_or ids loop.i 0) loop.invariant.0 loop.invariant.1),
       new-next ids loop.i h loop.invariant.2 (not-before c),
     )
-
-pub returns : goal.returns
-returns c =
-    let z : c.loop-i.i ≡ c.args.n = omega (arith, c.loop-i.auto.i-end, c.loop-i-test.false) in
-    sym (rw z at c.loop-i.invariant.2)

@@ -1,6 +1,6 @@
 -- The loop keeps: the ids are distinct exactly where those from the place on are. Assumes nothing.
-use mathlib.Core.Path.{◌≡◌, refl, sym, ◌∙◌}
-use Prim.Native.Nat.{◌+◌, zero-le}
+use mathlib.Core.Path.{◌≡◌, sym, ◌∙◌}
+use Prim.Native.Nat.{◌+◌}
 use lib.ListN.{drop}
 use Rattle.wire.specs.Sums.{member}
 use Rattle.wire.proofs.ListLaws.{part_to_end}
@@ -8,7 +8,6 @@ use Rattle.fingerprint_parameters.specs.Code.{ids_in}
 use Rattle.fingerprint_order.proofs.MemberLaws.{distinct_nil, distinct-not, distinct-later}
 use Rattle.fingerprint_parameters.proofs.ParameterLaws as laws
 use Rattle.fingerprint_parameters.proofs.ParameterLaws.{Next, cut-there, ids-end}
-use native.Mathlib.Omega.{arith}
 use Rattle.fingerprint_parameters.proofs.each_among_later.Goals as goal
 use Rattle.fingerprint_parameters.proofs.each_among_later.Goals.{After-has_id, In-Some}
 
@@ -33,11 +32,6 @@ looked c =
     let loop = c.loop-at in
     rw (part_to_end args.body.now (loop.at + c.in-Some.parameter.used)) at c.has_id.ensures
 
-pub loop-at-init : goal.loop-at-init
-loop-at-init c =
-    let pre = c.requires in
-    (zero-le, pre, refl)
-
 pub returns-in_default : goal.returns-in_default
 returns-in_default c =
     let args = c.args in
@@ -45,15 +39,6 @@ returns-in_default c =
     let test = c.loop-at-test in
     let call = c.one_parameter in
     absurd (cut-there args.body.now loop.at test.true _ call.ensures c.in_default.is loop.invariant.1)
-
-pub overflow_add-at : goal.overflow_add-at
-overflow_add-at c = omega (arith, (next (goal.at.overflow_add-at c).In-Some).within)
-
-pub slice_bounds-has_id-count : goal.slice_bounds-has_id-count
-slice_bounds-has_id-count c = (next (goal.at.slice_bounds-has_id-count c).In-Some).within
-
-pub slice_bounds-has_id-start : goal.slice_bounds-has_id-start
-slice_bounds-has_id-start c = omega (arith, (next (goal.at.slice_bounds-has_id-start c).In-Some).within)
 
 pub has_id-requires : goal.has_id-requires
 has_id-requires c =
@@ -67,12 +52,6 @@ returns-then-has_id c =
     let at_entry_lem = (goal.at.returns-then-has_id c).In-Some in
     let at-look = (goal.at.returns-then-has_id c).After-has_id in
     sym (loop.invariant.2 ∙ rw ((next at_entry_lem).ids loop.invariant.1) (distinct-not _ _ (sym (looked at-look) ∙ c.if-has_id.true)))
-
-pub loop-at-smaller : goal.loop-at-smaller
-loop-at-smaller c =
-    let test = c.loop-at-test in
-    let at_entry_lem = (goal.at.loop-at-smaller c).In-Some in
-    omega (arith, test.true, (next at_entry_lem).some)
 
 pub loop-at-preserved : goal.loop-at-preserved
 loop-at-preserved c =

@@ -1,11 +1,9 @@
 -- The loop keeps: the id is among those of the body exactly where it is among those from the place on. Assumes nothing.
-use mathlib.Core.Path.{refl, sym, ◌∙◌}
-use Prim.Native.Nat.{zero-le}
+use mathlib.Core.Path.{sym, ◌∙◌}
 use Rattle.wire.proofs.SumLaws.{member-nil}
 use Rattle.fingerprint_order.proofs.MemberLaws.{member-first, member-later}
 use Rattle.fingerprint_parameters.proofs.ParameterLaws as laws
 use Rattle.fingerprint_parameters.proofs.ParameterLaws.{Next, cut-there, ids-end}
-use native.Mathlib.Omega.{arith}
 use Rattle.fingerprint_parameters.proofs.has_id.Goals as goal
 use Rattle.fingerprint_parameters.proofs.has_id.Goals.{In-Some}
 
@@ -21,11 +19,6 @@ next c =
     let call = c.one_parameter in
     laws.next args.list.now loop.at test.true _ call.ensures (λ k. (start.type_inv.list k).fits) c.in-Some.is
 
-pub loop-at-init : goal.loop-at-init
-loop-at-init c =
-    let pre = c.requires in
-    (zero-le, pre, refl)
-
 pub returns-in_default : goal.returns-in_default
 returns-in_default c =
     let args = c.args in
@@ -39,14 +32,6 @@ returns-then-id-parameter c =
     let args = c.args in
     let loop = c.loop-at in
     sym (loop.invariant.2 ∙ rw ((next (goal.at.returns-then-id-parameter c).In-Some).ids loop.invariant.1) (member-first args.id _ _ c.if-id-parameter.true))
-
-pub overflow_add-at : goal.overflow_add-at
-overflow_add-at c = omega (arith, (next (goal.at.overflow_add-at c).In-Some).within)
-
-pub loop-at-smaller : goal.loop-at-smaller
-loop-at-smaller c =
-    let test = c.loop-at-test in
-    omega (arith, test.true, (next (goal.at.loop-at-smaller c).In-Some).some)
 
 pub loop-at-preserved : goal.loop-at-preserved
 loop-at-preserved c =

@@ -44,20 +44,6 @@ returns-in_err-parameter c =
     let cut = ids-cut args.body.now loop.at test.true _ c.one_parameter.ensures c.in_err-parameter.was in
     rw c.from_residual.ensures (reading-cut args.body.now args.ids.now loop.ids loop.at loop.k loop.invariant cut)
 
-pub overflow_add-at : goal.overflow_add-at
-overflow_add-at c = omega (arith, (next (goal.at.overflow_add-at c).In_ok-parameter).within)
-
-pub overflow_add-k : goal.overflow_add-k
-overflow_add-k c =
-    let loop = c.loop-at in
-    let test = c.loop-at-test in
-    omega (arith, loop.invariant.few, test.true)
-
-pub loop-at-smaller : goal.loop-at-smaller
-loop-at-smaller c =
-    let test = c.loop-at-test in
-    omega (arith, test.true, (next (goal.at.loop-at-smaller c).In_ok-parameter).some)
-
 pub loop-at-preserved : goal.loop-at-preserved
 loop-at-preserved c =
     let args = c.args in

@@ -1,5 +1,4 @@
 -- `split_records` hands back the part between the length and the place after the record, or an empty one. Assumes nothing.
-use native.Mathlib.Omega.{arith}
 use Rattle.records.specs.Records.{Finds}
 use Rattle.std.specs.Prelude.{Ok, Some}
 use Rattle.records.proofs.Promises.{part_of}
@@ -11,18 +10,6 @@ found :
     (c : In-Ok-Some)
     → let args = c.args in Finds args.blob.now args.place (Ok (Some c.in-Ok-Some.after))
 found c = rw (c.in-Ok-Some.is, c.in-Ok-Some.field-0-is) at c.next_record.ensures
-
-pub overflow_add-start : goal.overflow_add-start
-overflow_add-start c = omega (arith, (found c).bounds)
-
-pub slice_bounds-result-count : goal.slice_bounds-result-count
-slice_bounds-result-count c = omega (arith, (found c).bounds)
-
-pub slice_bounds-result-start : goal.slice_bounds-result-start
-slice_bounds-result-start c = omega (arith, (found c).bounds)
-
-pub slice_bounds-result-end : goal.slice_bounds-result-end
-slice_bounds-result-end c = omega (arith, (found c).bounds)
 
 pub returns-in-Ok-Some : goal.returns-in-Ok-Some
 returns-in-Ok-Some c = part_of _ _ _ (found (goal.at.returns-in-Ok-Some c).In-Ok-Some)

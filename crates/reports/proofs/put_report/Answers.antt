@@ -6,15 +6,6 @@ use Rattle.script_writing.proofs.AnswerLaws.{all-as, written-more}
 use Rattle.reports.specs.Code.{first_parts, list_parts, last_parts, report_parts}
 use Rattle.reports.proofs.put_report.Goals as goal
 
-pub put_first_lines-n-requires : goal.put_first_lines-n-requires
-put_first_lines-n-requires c = c.requires.counts
-
-pub put_list_lines-requires : goal.put_list_lines-requires
-put_list_lines-requires c = c.requires.counts
-
-pub put_last_lines-requires : goal.put_last_lines-requires
-put_last_lines-requires c = c.requires
-
 pub returns : goal.returns
 unfolding report_parts
 returns c =

@@ -3,4 +3,4 @@ use native.Mathlib.Numerals.{add-one}
 use Rattle.show_hello.proofs.put_end.Goals as goal
 
 pub returns : goal.returns
-returns c = rw add-one at c.put_line.ensures
+returns c = rw add-one at c.put_line.ensures 26

@@ -2,6 +2,7 @@
 use Prim.Native.Nat.{zero-le}
 use mathlib.Core.Path.{refl}
 use Rattle.wire.specs.Stops.{stop_of}
+use Rattle.show_lines.specs.Rows.{cursor_of}
 use Rattle.show_hello.proofs.TurnLaws.{going-none, going_more, going-ended}
 use native.Mathlib.Omega.{arith}
 use borrow.Author.Rules.{rules}
@@ -12,7 +13,7 @@ loop-c-init c =
     let args = c.args in
     let first = c.start-c.ensures in
     let stop = stop_of args.stop in
-    (first.1, zero-le, refl, going-none args.hello.now stop c.start-c.result args.out.now first.0)
+    (first.1, zero-le, refl, going-none args.hello.now stop (cursor_of c.start-c.result) args.out.now first.0)
 
 pub line_at-line-requires : goal.line_at-line-requires
 line_at-line-requires c = (omega (arith, c.requires), c.loop-c.invariant.0, c.loop-c-test.true)
@@ -35,7 +36,7 @@ loop-c-preserved c =
       after.ensures.1,
       search rules,
       search rules,
-      going_more args.hello.now (stop_of args.stop) l.c after.result line.result l.used w.result _
+      going_more args.hello.now (stop_of args.stop) (cursor_of l.c) (cursor_of after.result) line.result l.used w.result _
           args.out.now l.out w.new.out c.loop-c-test.true line.ensures.0 after.ensures.0 after.ensures.2 l.invariant.3 refl
           w.ensures,
     )
@@ -44,4 +45,4 @@ pub returns : goal.returns
 returns c =
     let args = c.args in
     let l = c.loop-c in
-    going-ended args.hello.now (stop_of args.stop) l.c l.used args.out.now l.out c.loop-c-test.false l.invariant.3
+    going-ended args.hello.now (stop_of args.stop) (cursor_of l.c) l.used args.out.now l.out c.loop-c-test.false l.invariant.3

@@ -3,13 +3,14 @@ use Prim.Native.Nat.{◌-◌, ◌≤◌}
 use mathlib.Core.Path.{◌≡◌}
 use lib.ListN.{length}
 use Rattle.show_lines.specs.Lines.{Ready}
+use Rattle.show_lines.specs.Rows.{cursor_of}
 use Rattle.wire.specs.Stops.{stop_of}
 use Rattle.show_hello.proofs.TurnLaws.{Going}
 use Rattle.show_hello.proofs.put_lines.Given as goal
 
 abbrev pub invariant-loop-c : goal.invariant-loop-c
 invariant-loop-c l =
-    Ready (length l.hello) l.c × (l.used ≤ length l.out) × (length l.out ≡ length l.initial.out) × Going l.hello (stop_of l.stop) l.c l.used l.initial.out l.out
+    Ready (length l.hello) (cursor_of l.c) × (l.used ≤ length l.out) × (length l.out ≡ length l.initial.out) × Going l.hello (stop_of l.stop) (cursor_of l.c) l.used l.initial.out l.out
 
 abbrev pub decreases-loop-c : goal.decreases-loop-c
 decreases-loop-c l = length l.hello - l.c.at

@@ -8,7 +8,7 @@ use Rattle.show_words.proofs.LineLaws.{marks-any, least-bytes, line_plain, line_
 use Rattle.show_words.proofs.put_line.Goals as goal
 
 pub returns-in-Some : goal.returns-in-Some
-returns-in-Some c =
+returns-in-Some c what =
     let args = c.args in
     let h = args.input.now in
     let spot = args.spot in
@@ -16,38 +16,38 @@ returns-in-Some c =
     let mark = c.is_marked-marked in
     let end = c.min-end in
     let bytes = least-bytes h spot.at spot.past end.result end.ensures in
-    let marked = mark.ensures ∙ marks-any (stop_of args.stop) spot.at spot.past 0 spot.what in
+    let marked = mark.ensures ∙ marks-any (stop_of args.stop) spot.at spot.past 0 what in
     let words = c.put_phrase.ensures in
     let front = written-more _ _ _ _ _ _ _ _ c.put_front-n.ensures refl words.is in
     let reason = c.put_reason.ensures in
-    line_marked spot.digits h (stop_of args.stop) (row spot.at spot.past spot.what) _ bytes mark.result marked
+    line_marked spot.digits h (stop_of args.stop) (row spot.at spot.past what) _ bytes mark.result marked
     (stopped (question s.refusal) s.place) (ap stop_of c.in-Some.is)
     words.parts reason.words c.if-marked.true (written-more _ _ _ _ _ _ _ _ front refl reason.is)
 
 pub returns-in_default : goal.returns-in_default
-returns-in_default c =
+returns-in_default c what =
     let args = c.args in
     let h = args.input.now in
     let spot = args.spot in
     let mark = c.is_marked-marked in
     let end = c.min-end in
     let bytes = least-bytes h spot.at spot.past end.result end.ensures in
-    let marked = mark.ensures ∙ marks-any (stop_of args.stop) spot.at spot.past 0 spot.what in
+    let marked = mark.ensures ∙ marks-any (stop_of args.stop) spot.at spot.past 0 what in
     let words = c.put_phrase.ensures in
     let front = written-more _ _ _ _ _ _ _ _ c.put_front-n.ensures refl words.is in
-    line_plain spot.digits h (stop_of args.stop) (row spot.at spot.past spot.what) _ bytes mark.result marked words.parts c.if-marked.false front
+    line_plain spot.digits h (stop_of args.stop) (row spot.at spot.past what) _ bytes mark.result marked words.parts c.if-marked.false front
 
 pub returns-in_default-2 : goal.returns-in_default-2
-returns-in_default-2 c =
+returns-in_default-2 c what =
     let args = c.args in
     let h = args.input.now in
     let spot = args.spot in
     let mark = c.is_marked-marked in
     let end = c.min-end in
     let bytes = least-bytes h spot.at spot.past end.result end.ensures in
-    let marked = mark.ensures ∙ marks-any (stop_of args.stop) spot.at spot.past 0 spot.what in
+    let marked = mark.ensures ∙ marks-any (stop_of args.stop) spot.at spot.past 0 what in
     let words = c.put_phrase.ensures in
     let front = written-more _ _ _ _ _ _ _ _ c.put_front-n.ensures refl words.is in
-    let row = row spot.at spot.past spot.what in
+    let row = row spot.at spot.past what in
     let plain = none-marked mark.result (stop_of args.stop) row (ap stop_of c.in_default.is) marked in
     line_plain spot.digits h (stop_of args.stop) row _ bytes mark.result marked words.parts plain front

@@ -10,12 +10,6 @@ pub loop-i-init : goal.loop-i-init
 unfolding shuffle
 loop-i-init g c = (refl, λ d. refl)
 
-pub place_up_to-requires : goal.place_up_to-requires
-place_up_to-requires g c = omega (arith, c.loop-i.invariant.0)
-
-pub overflow_add-next : goal.overflow_add-next
-overflow_add-next g c = omega (arith, c.loop-i.invariant.0)
-
 pub loop-i-preserved : goal.loop-i-preserved
 loop-i-preserved g c =
     let l = c.loop-i in

@@ -35,11 +35,6 @@ drawn-length :
     c.payload_length-n.result ≡ payload_length (next_u64 args.tape.now (args.at + 40))
 drawn-length c = rw c.next_u64-2.ensures.0 at c.payload_length-n.ensures.0
 
-pub put_random_vector-requires-2 : goal.put_random_vector-requires-2
-put_random_vector-requires-2 c =
-    let start = c in
-    omega (arith, drawn-length (goal.at.put_random_vector-requires-2 c).After-payload_length-n, start.requires)
-
 pub returns : goal.returns
 unfolding ext_encrypted_client_hello
 returns c =

@@ -11,8 +11,5 @@ put_extension-requires c =
     let room = rw is-fixed.0 at c.requires in
     (omega (arith, room, length-extension c.args.t.0 c.in-Some.body.now), is-fixed.1)
 
-pub returns-in-Some : goal.returns-in-Some
-returns-in-Some c = rw c.in-Some.ensures.0 c.put_extension.ensures
-
 pub returns-in-None : goal.returns-in-None
 returns-in-None c = rw c.in-None.ensures (record { count = refl; output = front-none c.args.out.now })

@@ -8,7 +8,7 @@ use Rattle.wire.specs.Numbers.{digits}
 use Rattle.wire.specs.Vectors.{words}
 use Rattle.wire.proofs.NumberLaws.{length_digits}
 use Rattle.wire.proofs.VectorLaws.{length-words, words-from}
-use Rattle.wire.proofs.Writing.{Writing, begins, rest-is, filled, same_length as kept, place-within, next-room, writes, finished}
+use Rattle.wire.proofs.Writing.{Writing, begins, rest-is, filled, writes, finished}
 use Rattle.profiles.specs.Code.{group_number}
 use native.Mathlib.Omega.{arith}
 use Rattle.tls_extensions.proofs.put_groups.Goals as goal
@@ -29,15 +29,6 @@ loop-group-init c =
     let list = map group_number groups in
     (omega arith, begins (words list) c.args.out.now (omega (arith, length-words list, length-map groups group_number, c.requires)))
 
-pub w16-requires : goal.w16-requires
-w16-requires c =
-    let i = c.loop-group.group-index in
-    let list = map group_number c.args.groups.now in
-    next-room (digits 256 2 (get_or list i 0)) (words (drop (i + 1) list)) (here (goal.at.w16-requires c).In-loop-group) (length_digits 256 2 (get_or list i 0))
-
-pub overflow_add-at : goal.overflow_add-at
-overflow_add-at c = omega (arith, c.loop-group.invariant.0)
-
 pub loop-group-preserved : goal.loop-group-preserved
 loop-group-preserved c =
     let loop = c.loop-group in
@@ -53,12 +44,3 @@ returns c =
     let list = map group_number groups in
     let all : c.loop-group.group-index ≡ length list = omega (arith, length-map groups group_number) in
     finished (rest-is c.loop-group.invariant.1 (rw (all, drop-length list) refl))
-
-pub slice_bounds-w16-count : goal.slice_bounds-w16-count
-slice_bounds-w16-count c = place-within c.loop-group.invariant.1
-
-pub slice_bounds-w16-start : goal.slice_bounds-w16-start
-slice_bounds-w16-start c = place-within c.loop-group.invariant.1
-
-pub shape_of-out : goal.shape_of-out
-shape_of-out c = kept c.loop-group.invariant.1

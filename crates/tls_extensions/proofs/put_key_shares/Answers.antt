@@ -6,7 +6,6 @@ use Rattle.profiles.specs.Code.{group_number}
 use lib.ListN.{length, drop, get_or, length-map, get_or-map}
 use lib.Seq.{drop-length}
 use Rattle.profiles.specs.Sizes.{key_draws}
-use Rattle.wire.proofs.Writing.{same_length as kept, place-within}
 use Rattle.tape.specs.Part.{followed}
 use Rattle.tape.proofs.PartLaws.{Drawing, starts, same-part, part_room, part-next, part-finished}
 use Rattle.tls_extensions.specs.Extensions.{key_share, key_shares}
@@ -43,12 +42,6 @@ group-is c = get_or-map group_number c.args.groups.now c.loop-group.group-index 
 pub loop-group-init : goal.loop-group-init
 loop-group-init c = starts _ c.args.out.now c.requires.fits
 
-pub slice_bounds-put_key_share-count : goal.slice_bounds-put_key_share-count
-slice_bounds-put_key_share-count c = place-within c.loop-group.invariant.writing
-
-pub slice_bounds-put_key_share-start : goal.slice_bounds-put_key_share-start
-slice_bounds-put_key_share-start c = place-within c.loop-group.invariant.writing
-
 pub put_key_share-w-requires : goal.put_key_share-w-requires
 unfolding key_share
 put_key_share-w-requires c =
@@ -80,9 +73,6 @@ loop-group-preserved c =
     let loop = c.loop-group in
     let written = rw (← (group-is in-loop)) at c.put_key_share-w.ensures in
     part-next (key_share (get_or groups loop.group-index 0) args.tape.now loop.next) (key_shares (drop (loop.group-index + 1) groups) args.tape.now) (here in-loop) written
-
-pub shape_of-out : goal.shape_of-out
-shape_of-out c = kept c.loop-group.invariant.writing
 
 pub returns : goal.returns
 unfolding key_shares

@@ -3,7 +3,7 @@ use mathlib.Core.Path.{refl}
 use native.Mathlib.Omega.{arith}
 use Rattle.profiles.specs.declared.TpEntry.{TpEntry}
 use Rattle.profiles.specs.declared.TpEntry.TheVariants as entry
-use Rattle.tls_parameters.proofs.OrderLaws.{drawn-none, drawn-more, next-within, drawn-all}
+use Rattle.tls_parameters.proofs.OrderLaws.{drawn-none, drawn-more, next-within}
 use Rattle.tls_parameters.proofs.place_draws.Goals as goal
 
 -- what stands for a missing one
@@ -18,6 +18,3 @@ overflow_add-next c = omega (arith, next-within c.loop-i.invariant missing c.loo
 
 pub loop-i-preserved : goal.loop-i-preserved
 loop-i-preserved c = drawn-more c.loop-i.invariant missing c.loop-i-test.true (omega (arith, c.requires.0)) c.parameter_draws-next.ensures.0
-
-pub returns : goal.returns
-returns c = drawn-all (omega arith) c.loop-i.invariant

@@ -91,9 +91,6 @@ slice_bounds-w8-count c = place-within (id-done (goal.at.slice_bounds-w8-count c
 pub slice_bounds-w8-start : goal.slice_bounds-w8-start
 slice_bounds-w8-start c = place-within (id-done (goal.at.slice_bounds-w8-start c).After-put_varint-a)
 
-pub overflow_cast-varint_length : goal.overflow_cast-varint_length
-overflow_cast-varint_length c = omega (arith, c.varint_length.ensures.1)
-
 pub overflow_add-b : goal.overflow_add-b
 overflow_add-b c = omega (arith, (length-done (goal.at.overflow_add-b c).After-w8).within)
 

@@ -1,10 +1,7 @@
 -- `alike::counts::equally_often` meets its contract: the answer for all the items is that for those from the place on. Assumes nothing.
-use mathlib.Core.Path.{refl, sym, ◌∙◌}
+use mathlib.Core.Path.{sym, ◌∙◌}
 use Rattle.alike.proofs.CountLaws.{often-not, often-on, often-end}
 use Rattle.alike.proofs.counts.equally_often.Goals as goal
-
-pub loop-x-init : goal.loop-x-init
-loop-x-init c = refl
 
 pub returns-then-times : goal.returns-then-times
 returns-then-times c =

@@ -2,8 +2,8 @@
 use Prim.Native.Nat.{◌+◌}
 use mathlib.Core.Path.{refl, sym, ap, ◌∙◌}
 use mathlib.Core.List.{◌∷◌, map}
-use lib.ListN.{drop, length-map, drop_of_length-le}
-use Rattle.fingerprint_lists.proofs.FillLaws.{filled-start, filled_next, filled-end, items-next}
+use lib.ListN.{drop, length-map}
+use Rattle.fingerprint_lists.proofs.FillLaws.{filled-start, filled_next, items-next}
 use native.Mathlib.Omega.{arith}
 use Rattle.alike.proofs.counts.numbers.Goals as goal
 
@@ -19,10 +19,3 @@ loop-i-preserved g c =
     let next = items-next s l.i item.result c.loop-i-test.true ∙ ap (λ x. x ∷ drop (l.i + 1) s) (sym item.is) in
     filled_next l.invariant (ap (map f) next ∙ ap (λ n. n ∷ map f (drop (l.i + 1) s)) (sym c.counts_as.ensures))
     (omega (arith, length-map s f, c.requires))
-
-pub returns : goal.returns
-returns g c =
-    let l = c.loop-i in
-    let s = c.args.items.now in
-    let none_left = drop_of_length-le s {i = l.i} (omega arith) in
-    filled-end l.invariant (ap (map g.T.Counted.counts_as) none_left)

@@ -1,6 +1,5 @@
 -- `alike::names::same_protocols` meets its contract: the names before place i are the same; counts or names that differ make lists that
 -- differ. Assumes nothing.
-use mathlib.Core.Path.{refl}
 use Rattle.fingerprint_lists.specs.Arrays.{span}
 use Rattle.fingerprint.specs.Code.{part_of}
 use Rattle.alike.proofs.SameLaws.{protocols-tests}
@@ -14,15 +13,6 @@ returns-then-n-m c =
     let args = c.args in
     let pre = c.requires in
     counts-differ (part_of args.a.now) (part_of args.b.now) (span 0 0) args.x args.y args.n args.m pre.0 pre.2 protocols-tests c.if-n-m.true
-
-pub loop-i-init : goal.loop-i-init
-loop-i-init c = refl
-
-pub part-requires : goal.part-requires
-part-requires c = c.requires.1 c.loop-i.i c.loop-i-test.true
-
-pub part-requires-in-loop-i : goal.part-requires-in-loop-i
-part-requires-in-loop-i c = c.requires.3 c.loop-i.i (omega (arith, c.loop-i-test.true, c.if-n-m.false))
 
 pub returns-then-ne : goal.returns-then-ne
 returns-then-ne c =

@@ -1,6 +1,6 @@
 -- `extension` asks the questions in the order of `ask_body`. Assumes nothing.
 use Prim.Native.Nat.{ℕ, ◌-◌}
-use mathlib.Core.Path.{◌≡◌, sym, ap, ◌∙◌, subst}
+use mathlib.Core.Path.{◌≡◌, sym, ◌∙◌, subst}
 use mathlib.Core.Bool.{false}
 use mathlib.Core.List.{List}
 use lib.ListN.{length, take, drop}
@@ -10,8 +10,7 @@ use Rattle.std.proofs.lemmas.Result.{err_from_is_err_and}
 use Rattle.wire.specs.Sums.{member}
 use Rattle.wire.specs.declared.refusals.Refusal.TheVariants as no
 use Rattle.fingerprint_bodies.specs.Body.{Kind, kind}
-use Rattle.fingerprint.specs.Code.{kind_at, HeaderFound, BodyAsked}
-use Rattle.fingerprint.proofs.KindLaws.{kind-at-slot}
+use Rattle.fingerprint.specs.Code.{HeaderFound, BodyAsked}
 use Rattle.fingerprint.proofs.StepLaws.{step_cut, step-known, step-bad, step-full, step-found, question-some}
 use native.Mathlib.Omega.{arith}
 use Rattle.fingerprint.proofs.walk.extension.Goals as goal
@@ -32,14 +31,14 @@ count-is c = length-take-le c.args.known.count c.args.known.types.now (omega (ar
 new : (c : Else-has) → member c.in_ok-header.header.ext_type (take c.args.known.count c.args.known.types.now) ≡ false
 new c = sym c.has.ensures ∙ c.if-has.false
 
--- the kind at the type's place is the type's
+-- the kind is the type's
 body-asked : (c : After-ask_body) →
     let e = c.in_ok-header.header in
     BodyAsked (kind e.ext_type) (take (e.end - e.start) (drop e.start c.args.hello.now)) c.ask_body.result c.args.ids.now c.ask_body.new.ids
 body-asked c =
     let e = c.in_ok-header.header in
     subst (λ (k : Kind). BodyAsked k (take (e.end - e.start) (drop e.start c.args.hello.now)) c.ask_body.result c.args.ids.now c.ask_body.new.ids)
-    (ap kind_at c.slot-place.ensures ∙ kind-at-slot (kind e.ext_type)) c.ask_body.ensures
+    c.of-kind.ensures c.ask_body.ensures
 
 pub returns-in_err-header : goal.returns-in_err-header
 returns-in_err-header c =
@@ -80,6 +79,6 @@ returns c =
     let h = (goal.at.returns c).In_ok-header in
     let asked = body-asked (goal.at.returns c).After-ask_body in
     let good = rw c.in_ok-new_ids.was at asked.is in (
-      step-found (found h) (types h) (new (goal.at.returns c).Else-has) (sym good) c.slot-place.ensures (omega (arith, count-is h, c.if-known-ge64.false)),
+      step-found (found h) (types h) (new (goal.at.returns c).Else-has) (sym good) c.of-kind.ensures (omega (arith, count-is h, c.if-known-ge64.false)),
       rw c.in_ok-new_ids.was at asked.gained,
     )

@@ -3,14 +3,13 @@ use Prim.Native.Nat.{◌<◌}
 use lib.ListN.{take}
 use Rattle.std.specs.Prelude.{Ok}
 use Rattle.std.proofs.lemmas.Result.{err_from_is_err_and}
-use Rattle.fingerprint_bodies.specs.Body.{kind}
-use Rattle.fingerprint.specs.Code.{StepAs}
+use Rattle.fingerprint.specs.Code.{meant, StepAs}
 use Rattle.fingerprint.proofs.KindLaws.{slot_small}
 use Rattle.fingerprint.proofs.IdLaws.{few-gained, few-found}
 use Rattle.fingerprint.proofs.WalkLaws.{walking_start, walking-next, walking-stop, walking-end, types_long, types-marked, has_room}
 use native.Mathlib.Omega.{arith}
 use Rattle.fingerprint.proofs.walk.survey_block.Goals as goal
-use Rattle.fingerprint.proofs.walk.survey_block.Goals.{In_ok-step}
+use Rattle.fingerprint.proofs.walk.survey_block.Goals.{In_ok-step, After-slot}
 
 found : (c : In_ok-step) →
     let l = c.loop-at in
@@ -20,8 +19,8 @@ found c = rw c.in_ok-step.was at c.extension.ensures
 room : (c : In_ok-step) → c.loop-at.count < 64
 room c = has_room c.loop-at.invariant (found c).0.room
 
-place-small : (c : In_ok-step) → c.in_ok-step.step.slot < 8
-place-small c = omega (arith, (found c).0.place_is, slot_small (kind c.in_ok-step.step.ext_type))
+place-small : (c : After-slot) → c.slot.result < 8
+place-small c = omega (arith, c.slot.ensures, slot_small (meant c.in_ok-step.step.kind))
 
 pub loop-at-init : goal.loop-at-init
 loop-at-init c =
@@ -51,11 +50,11 @@ bounds-marks-mark c = omega (arith, c.mark.ensures)
 pub overflow_sub-bodies : goal.overflow_sub-bodies
 overflow_sub-bodies c = (found (goal.at.overflow_sub-bodies c).In_ok-step).0.forward
 
-pub offset_bounds-bodies-step : goal.offset_bounds-bodies-step
-offset_bounds-bodies-step c = omega (arith, place-small (goal.at.offset_bounds-bodies-step c).In_ok-step)
+pub offset_bounds-bodies-slot : goal.offset_bounds-bodies-slot
+offset_bounds-bodies-slot c = omega (arith, place-small (goal.at.offset_bounds-bodies-slot c).After-slot)
 
-pub bounds-bodies-step : goal.bounds-bodies-step
-bounds-bodies-step c = omega (arith, place-small (goal.at.bounds-bodies-step c).In_ok-step)
+pub bounds-bodies-slot : goal.bounds-bodies-slot
+bounds-bodies-slot c = omega (arith, place-small (goal.at.bounds-bodies-slot c).After-slot)
 
 pub overflow_add-count : goal.overflow_add-count
 overflow_add-count c = omega (arith, room (goal.at.overflow_add-count c).In_ok-step)
@@ -74,7 +73,7 @@ pub loop-at-preserved : goal.loop-at-preserved
 loop-at-preserved c =
     let w = c.loop-at.invariant in
     let s = found (goal.at.loop-at-preserved c).In_ok-step in
-    walking-next w c.mark.ensures (λ i. (c.type_inv.hello i).fits) c.loop-at-test.true s.0 s.1
+    walking-next w c.mark.ensures c.slot.ensures (λ i. (c.type_inv.hello i).fits) c.loop-at-test.true s.0 s.1
 
 pub returns-in_err-step : goal.returns-in_err-step
 returns-in_err-step c =

@@ -5,7 +5,7 @@ use mathlib.Core.List.{List}
 use native.Mathlib.Omega.{arith}
 use lib.ListN.{length}
 use Rattle.wire.proofs.ListLaws.{part_to_end, length-part-to-end}
-use Rattle.fingerprint.specs.Code.{kind_at}
+use Rattle.fingerprint.specs.Code.{meant}
 use Rattle.fingerprint_stops.specs.Stops.{passed}
 use Rattle.fingerprint_stops.proofs.EntryLaws.{broken-list, broken-entries, broken-empty, broken-length}
 use Rattle.fingerprint_stops.proofs.body.broken_at.Goals as goal
@@ -14,13 +14,13 @@ pub returns-then-width-eq0 : goal.returns-then-width-eq0
 returns-then-width-eq0 c =
     let args = c.args in
     let width = c.list_at-width in
-    let is = broken-list (kind_at args.place) args.body.now width.result width.ensures.0 c.if-width-eq0.true in
+    let is = broken-list (meant args.kind) args.body.now width.result width.ensures.0 c.if-width-eq0.true in
     (c.passed_over.ensures.0 ∙ is, c.passed_over.ensures.1)
 
 pub returns-then-width-body : goal.returns-then-width-body
 returns-then-width-body c =
     let args = c.args in
-    let k = kind_at args.place in
+    let k = meant args.kind in
     let width = c.list_at-width in
     let whole = sym c.is_whole.ensures ∙ c.if-is_whole.true in
     let listed = c.if-width-eq0.false in
@@ -37,11 +37,11 @@ returns-else-width-body c =
     let width = c.list_at-width in
     let whole = sym c.is_whole.ensures ∙ c.if-is_whole.true in
     let listed = c.if-width-eq0.false in
-    (broken-empty (kind_at args.place) args.body.now width.result width.ensures.0 listed whole c.if-width-body.false, omega arith)
+    (broken-empty (meant args.kind) args.body.now width.result width.ensures.0 listed whole c.if-width-body.false, omega arith)
 
 pub returns-else-is_whole : goal.returns-else-is_whole
 returns-else-is_whole c =
     let args = c.args in
     let width = c.list_at-width in
     let other = sym c.is_whole.ensures ∙ c.if-is_whole.false in
-    (broken-length (kind_at args.place) args.body.now width.result width.ensures.0 c.if-width-eq0.false other, omega arith)
+    (broken-length (meant args.kind) args.body.now width.result width.ensures.0 c.if-width-eq0.false other, omega arith)

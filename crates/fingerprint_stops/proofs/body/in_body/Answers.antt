@@ -10,17 +10,16 @@ use Rattle.wire.specs.declared.refusals.Refusal.{Refusal}
 use Rattle.wire.specs.declared.refusals.Refusal.TheVariants as no
 use Rattle.fingerprint_bodies.specs.Body.{Kind, kind}
 use Rattle.fingerprint_bodies.specs.Code.{asked}
-use Rattle.fingerprint.specs.Code.{kind_at}
-use Rattle.fingerprint.proofs.KindLaws.{kind-at-slot}
+use Rattle.fingerprint.specs.Code.{meant}
 use Rattle.fingerprint.proofs.StepLaws.{question-some}
 use Rattle.fingerprint_stops.specs.Stops.{broken, past}
 use Rattle.fingerprint_stops.proofs.WalkLaws.{place-empty, place-good, place-broken, place-repeated, place-past}
 use Rattle.fingerprint_stops.proofs.body.in_body.Goals as goal
 use Rattle.fingerprint_stops.proofs.body.in_body.Goals.{After-ask_body}
 
--- the kind at the type's place is the type's
-same_kind : (c : After-ask_body) → kind_at c.slot-place.result ≡ kind c.args.t
-same_kind c = ap kind_at c.slot-place.ensures ∙ kind-at-slot (kind c.args.t)
+-- the kind is the type's
+same_kind : (c : After-ask_body) → meant c.of-kind.result ≡ kind c.args.t
+same_kind c = c.of-kind.ensures
 
 number_is : (c : After-ask_body) → told_number c.ask_body.result ≡ asked (kind c.args.t) c.args.body.now
 number_is c = c.ask_body.ensures.is ∙ ap (λ (k : Kind). asked k c.args.body.now) (same_kind c)

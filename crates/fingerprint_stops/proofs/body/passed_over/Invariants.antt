@@ -2,10 +2,10 @@
 use mathlib.Core.Path.{◌≡◌}
 use Prim.Native.Nat.{◌+◌, ◌-◌, ◌≤◌}
 use lib.ListN.{length, drop}
-use Rattle.fingerprint.specs.Code.{kind_at}
+use Rattle.fingerprint.specs.Code.{meant}
 use Rattle.fingerprint_stops.specs.Stops.{passed}
 use Rattle.fingerprint_stops.proofs.body.passed_over.Given as goal
 
 abbrev pub invariant-loop-k : goal.invariant-loop-k
 invariant-loop-k l =
-    (l.at ≤ length l.list) × (passed (kind_at l.place) l.n l.list ≡ l.at + passed (kind_at l.place) (l.n - l._k) (drop l.at l.list))
+    (l.at ≤ length l.list) × (passed (meant l.kind) l.n l.list ≡ l.at + passed (meant l.kind) (l.n - l._k) (drop l.at l.list))

@@ -21,17 +21,11 @@ loop-piece-init c =
     let is = c.into_iter-piece-iterator.ensures.into_iter_gives in
     (starts c.args.c c.args.hello.now, rw (is, whole.rest), rw (is, whole.size))
 
-pub frame_length-n-requires : goal.frame_length-n-requires
-frame_length-n-requires c = (omega (arith, (next c).turn.within, c.requires.2), omega (arith, (next c).turn.within, c.requires.2))
-
 pub overflow_add-n : goal.overflow_add-n
 overflow_add-n c =
     let n = next (goal.at.overflow_add-n c).In-Some in
     let long = c.frame_length-n.ensures.0 ∙ ap (λ bs. length (frame_at c.loop-piece.at bs)) n.is in
     omega (arith, long, next_small n.turn c.requires.0 c.requires.2)
-
-pub overflow_add-at : goal.overflow_add-at
-overflow_add-at c = omega (arith, (next (goal.at.overflow_add-at c).In-Some).turn.within, c.requires.2)
 
 pub loop-piece-preserved : goal.loop-piece-preserved
 loop-piece-preserved c =

@@ -3,7 +3,7 @@ use mathlib.Core.Path.{refl}
 use lib.ListN.{length}
 use Rattle.varint.specs.Varint.{shortest}
 use Rattle.varint.proofs.RoundTrip.{length-shortest}
-use Rattle.wire.proofs.Writing.{same_length as kept, place-within, next-room, finished}
+use Rattle.wire.proofs.Writing.{place-within, next-room, finished}
 use Rattle.frames.proofs.CutLaws.{shortest-most, frame-parts, length-frame, typed, offset-written, length-written, data-written}
 use native.Mathlib.Omega.{arith}
 use Rattle.frames.proofs.cutting.put_frame.Goals as goal
@@ -123,18 +123,6 @@ overflow_add-result c =
     let put-bytes = c.put_bytes in
     let args = c.args in
     omega (arith, pre.1, put-varint.ensures.count, put-varint2.ensures.count, put-bytes.ensures.count, shortest-most args.offset, shortest-most (length args.bytes.now))
-
-pub shape_of-out : goal.shape_of-out
-shape_of-out c =
-    let args = c.args in
-    let pre = c.requires in
-    let put-varint = c.put_varint-a in
-    let put-varint2 = c.put_varint in
-    let put-bytes = c.put_bytes in
-    let at = args.offset in
-    let bs = args.bytes.now in
-    let old = args.out.now in
-    kept (data-written at bs old pre.2 put-varint.ensures put-varint2.ensures put-bytes.ensures)
 
 pub returns : goal.returns
 returns c =

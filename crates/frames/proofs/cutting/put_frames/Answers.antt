@@ -5,7 +5,7 @@ use lib.ListN.{length, length-drop}
 use lib.Seq.{drop-length}
 use Rattle.std.specs.Slice.Iter.{chunks_rest}
 use Rattle.frames.specs.Cut.{frames_of}
-use Rattle.wire.proofs.Writing.{begins, restated, same_length as kept, place-within, finished}
+use Rattle.wire.proofs.Writing.{begins, restated, finished}
 use Rattle.frames.proofs.CutLaws.{Next, next-piece, frame_at, starts, ends, goes_on, next_small, frame-room, frame-written}
 use native.Mathlib.Omega.{arith}
 use Rattle.frames.proofs.cutting.put_frames.Goals as goal
@@ -27,12 +27,6 @@ loop-piece-init c =
     let is = c.into_iter-piece-iterator.ensures.into_iter_gives in
     (starts args.c args.hello.now, begins (frames_of args.c args.hello.now) args.out.now pre.3, rw (is, whole.rest), rw (is, whole.size))
 
-pub slice_bounds-put_frame-count : goal.slice_bounds-put_frame-count
-slice_bounds-put_frame-count c = place-within c.loop-piece.invariant.1
-
-pub slice_bounds-put_frame-start : goal.slice_bounds-put_frame-start
-slice_bounds-put_frame-start c = place-within c.loop-piece.invariant.1
-
 pub put_frame-n-requires : goal.put_frame-n-requires
 put_frame-n-requires c =
     let n = next (goal.at.put_frame-n-requires c).In-Some in
@@ -46,18 +40,12 @@ overflow_add-n c =
     let count = c.put_frame-n.ensures.count ∙ ap (λ bs. length (frame_at c.loop-piece.at bs)) n.is in
     omega (arith, count, next_small n.turn c.requires.0 c.requires.2)
 
-pub overflow_add-at : goal.overflow_add-at
-overflow_add-at c = omega (arith, (next (goal.at.overflow_add-at c).In-Some).turn.within, c.requires.2)
-
 pub loop-piece-preserved : goal.loop-piece-preserved
 loop-piece-preserved c =
     let loop = c.loop-piece in
     let n = next (goal.at.loop-piece-preserved c).In-Some in
     let put = rw n.is at c.put_frame-n.ensures in
     (rw put.count (goes_on n.turn), frame-written n.turn loop.invariant.1 put, n.follows, c.in-Some.ensures.steps.0 ∙ loop.invariant.3)
-
-pub shape_of-out : goal.shape_of-out
-shape_of-out c = kept c.loop-piece.invariant.1
 
 pub returns : goal.returns
 returns c =

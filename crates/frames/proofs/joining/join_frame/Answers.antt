@@ -2,9 +2,8 @@
 use Rattle.frames.specs.Read.{FrameFound}
 use Rattle.std.specs.Prelude.{Ok}
 use Rattle.frames.specs.declared.reading.Frame.TheVariants as frame
-use Rattle.frames.proofs.StepLaws.{step-padding, step-ping, step-unread, step-placed, step-unlaid}
+use Rattle.frames.proofs.StepLaws.{step-padding, step-ping, step-placed, step-unlaid}
 use Rattle.std.proofs.lemmas.Result.{err_from_is_err_and}
-use native.Mathlib.Omega.{arith}
 use Rattle.frames.proofs.joining.join_frame.Goals as goal
 use Rattle.frames.proofs.joining.join_frame.Goals.{In-Crypto}
 
@@ -12,15 +11,6 @@ found : (c : In-Crypto) →
     let args = c.args in
     FrameFound args.input.now (Ok (frame.Crypto c.in-Crypto.c))
 found c = rw c.in-Crypto.is at c.in_ok-read_frame.ensures
-
-pub slice_bounds-place-count : goal.slice_bounds-place-count
-slice_bounds-place-count c = (found c).bounds.1
-
-pub slice_bounds-place-start : goal.slice_bounds-place-start
-slice_bounds-place-start c = omega (arith, (found c).bounds)
-
-pub slice_bounds-place-end : goal.slice_bounds-place-end
-slice_bounds-place-end c = omega (arith, (found c).bounds)
 
 pub returns-in-Padding : goal.returns-in-Padding
 returns-in-Padding c = step-padding c.requires.2 (rw c.in-Padding.is at c.in_ok-read_frame.ensures)
@@ -40,8 +30,3 @@ returns-in_err-placed-in-Crypto c =
     let earlier = (goal.at.returns-in_err-placed-in-Crypto c).In-Crypto in
     let p = err_from_is_err_and c.from_residual-in_err-placed-in-Crypto.result c.from_residual-in_err-placed-in-Crypto.ensures.1 in
     rw (p.1, p.2) (step-unlaid pre.2 (found earlier) pre.0 pre.1 c.in_err-placed-in-Crypto.ensures)
-
-pub returns-in_err-read_frame : goal.returns-in_err-read_frame
-returns-in_err-read_frame c =
-    let p = err_from_is_err_and c.from_residual.result c.from_residual.ensures.1 in
-    rw (p.1, p.2) (step-unread c.requires.2 c.in_err-read_frame.ensures)

@@ -1,16 +1,8 @@
 -- Block by block as long as each is all zero, then to the first byte that is not. Assumes nothing.
-use Prim.Native.Nat.{zero-le}
 use mathlib.Core.Path.{sym, ◌∙◌}
-use native.Mathlib.Omega.{arith}
 use Rattle.wire.proofs.ListLaws.{part_to_end}
 use Rattle.frames.proofs.PaddingLaws.{next-block, to-other}
 use Rattle.frames.proofs.joining.padding.Goals as goal
-
-pub loop-block-init : goal.loop-block-init
-loop-block-init c =
-    let whole = c.chunks_exact-block-items.ensures in
-    let is = c.into_iter-block-iterator.ensures.into_iter_gives in
-    (record { within = zero-le; zero = λ i h. absurd (omega arith) }, rw (is, whole.rest), rw (is, whole.size))
 
 pub loop-block-preserved : goal.loop-block-preserved
 loop-block-preserved c =
@@ -19,16 +11,6 @@ loop-block-preserved c =
     let size = s.0 in
     let n = next-block l.at c.args.input.now _ _ _ l.invariant.0 l.invariant.1 s.1.0 (s.1.1 ∙ l.invariant.2) (sym c.if-not-all_zero.ensures) in
     (n.0, n.1, size ∙ l.invariant.2)
-
-pub overflow_add-at : goal.overflow_add-at
-overflow_add-at c =
-    let l = c.loop-block in
-    let s = c.in-Some.ensures.steps in
-    let n = next-block l.at c.args.input.now _ _ _ l.invariant.0 l.invariant.1 s.1.0 (s.1.1 ∙ l.invariant.2) (sym c.if-not-all_zero.ensures) in
-    omega (arith, n.0.within, c.well_formed)
-
-pub slice_bounds-first_other-count : goal.slice_bounds-first_other-count
-slice_bounds-first_other-count c = c.loop-block.invariant.0.within
 
 pub returns : goal.returns
 returns c =

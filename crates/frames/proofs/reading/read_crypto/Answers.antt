@@ -1,10 +1,10 @@
 -- `read_crypto` reads the two numbers and asks whether the data is there. Assumes nothing.
-use Prim.Native.Nat.{◌+◌, ◌≤◌}
-use lib.ListN.{length, drop}
+use Prim.Native.Nat.{◌+◌}
+use lib.ListN.{drop}
 use Rattle.wire.proofs.ListLaws.{part_to_end}
 use Rattle.varint.specs.Varint.{Found}
 use Rattle.std.specs.Prelude.{Ok}
-use Rattle.frames.proofs.ReadLaws.{no-offset, no_length, within-offset, within-length, no_body, whole}
+use Rattle.frames.proofs.ReadLaws.{no-offset, no_length, no_body, whole}
 use native.Mathlib.Omega.{arith}
 use Rattle.frames.proofs.reading.read_crypto.Goals as goal
 use Rattle.frames.proofs.reading.read_crypto.Goals.{In-Ok, In-Ok-read}
@@ -16,13 +16,6 @@ offset-found c =
     let args = c.args in
     rw (part_to_end args.input.now 1, c.in-Ok.is) at c.read.ensures
 
-offset-within : (c : In-Ok) →
-    let args = c.args in
-    1 + c.in-Ok.offset.width ≤ length args.input.now
-offset-within c =
-    let start = c in
-    within-offset start.args.input.now _ (offset-found c) start.requires
-
 length_found : (c : In-Ok-read) →
     let args = c.args in
     Found (drop (1 + c.in-Ok.offset.width) args.input.now) (Ok c.in-Ok-read.length)
@@ -30,27 +23,10 @@ length_found c =
     let args = c.args in
     rw (part_to_end args.input.now (1 + c.in-Ok.offset.width), c.in-Ok-read.is) at c.read-2.ensures
 
-length-within : (c : In-Ok-read) →
-    let args = c.args in
-    1 + c.in-Ok.offset.width + c.in-Ok-read.length.width ≤ length args.input.now
-length-within c =
-    let args = c.args in
-    let found = rw (part_to_end args.input.now 1, c.in-Ok.is) at c.read.ensures in
-    within-length args.input.now _ found _ (length_found c) c.requires
-
 pub returns-in_default : goal.returns-in_default
 returns-in_default c =
     let args = c.args in
     no-offset args.input.now _ (rw (part_to_end args.input.now 1, c.in_default.is) at c.read.ensures)
-
-pub overflow_add-a : goal.overflow_add-a
-overflow_add-a c = omega (arith, offset-within (goal.at.overflow_add-a c).In-Ok)
-
-pub slice_bounds-read-count-2 : goal.slice_bounds-read-count-2
-slice_bounds-read-count-2 c = offset-within (goal.at.slice_bounds-read-count-2 c).In-Ok
-
-pub slice_bounds-read-start-2 : goal.slice_bounds-read-start-2
-slice_bounds-read-start-2 c = omega (arith, offset-within (goal.at.slice_bounds-read-start-2 c).In-Ok)
 
 pub returns-in_default-read : goal.returns-in_default-read
 returns-in_default-read c =
@@ -59,22 +35,11 @@ returns-in_default-read c =
     let f = rw (part_to_end args.input.now (1 + c.in-Ok.offset.width), c.in_default-read.is) at c.read-2.ensures in
     no_length args.input.now _ (offset-found earlier) _ f
 
-pub overflow_add-start : goal.overflow_add-start
-overflow_add-start c = omega (arith, length-within (goal.at.overflow_add-start c).In-Ok-read)
-
-pub overflow_sub-input : goal.overflow_sub-input
-overflow_sub-input c = omega (arith, length-within (goal.at.overflow_sub-input c).In-Ok-read)
-
 pub returns-then-input-start : goal.returns-then-input-start
 returns-then-input-start c =
     let args = c.args in
     let earlier = (goal.at.returns-then-input-start c).In-Ok in
     no_body args.input.now _ (offset-found earlier) _ (length_found (goal.at.returns-then-input-start c).In-Ok-read) (omega (arith, c.if-input-start.true))
-
-pub overflow_add-end : goal.overflow_add-end
-overflow_add-end c =
-    let earlier = (goal.at.overflow_add-end c).In-Ok-read in
-    omega (arith, c.if-input-start.false, length-within earlier)
 
 pub returns : goal.returns
 returns c =

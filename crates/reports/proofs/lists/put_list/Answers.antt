@@ -1,12 +1,10 @@
 -- `put_list`: the label and the numbers before the item stand in the output. Assumes nothing.
 use Prim.Native.Nat.{ℕ}
 use mathlib.Core.Path.{refl, ap, ◌∙◌}
-use mathlib.Core.List.{List, [], ◌∷◌, ◌++◌, map}
+use mathlib.Core.List.{List, [], ◌∷◌, ◌++◌}
 use lib.ListN.{length}
-use lib.Seq.{take_all}
-use native.Mathlib.Nat.{le_refl}
-use Rattle.script_writing.proofs.AnswerLaws.{all-as, written_one}
-use Rattle.reports.proofs.PartLaws.{list-start, list-next, list-end, map_next}
+use Rattle.script_writing.proofs.AnswerLaws.{written_one}
+use Rattle.reports.proofs.PartLaws.{list-start, list-next, map_next}
 use borrow.Author.Rules.{rules}
 use Rattle.reports.proofs.lists.put_list.Invariants.{parts}
 use Rattle.reports.proofs.lists.put_list.Goals as goal
@@ -31,15 +29,3 @@ loop-item-preserved g c =
     ∙ map_next items l.item-index item.result c.loop-item-test.true g.T.Entry.text in
     list-next args.label.now (parts g.T.Entry.text args.items.now) (length args.items.now) text.result text.new.out l.at l.item-index l.out l.invariant put.result (t ∷ []) put.new.out
     c.loop-item-test.true next put.auto.out (written_one t put.result _ put.new.out put.ensures)
-
-pub returns : goal.returns
-returns g c =
-    let args = c.args in
-    let text = c.put_text-at in
-    let l = c.loop-item in
-    let items = args.items.now in
-    let label = args.label.now in
-    let text-of = g.T.Entry.text in
-    all-as (label ∷ parts text-of items (length items)) (label ∷ map text-of items) _ _ _
-    (ap (λ (l : List _). label ∷ map text-of l) (take_all (length items) items (le_refl (length items))))
-    (list-end args.label.now (parts g.T.Entry.text items) (length items) text.result text.new.out l.at l.item-index l.out l.invariant args.out.now c.loop-item-test.false text.ensures)

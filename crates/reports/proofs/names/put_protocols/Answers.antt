@@ -5,7 +5,7 @@ use lib.ListN.{length}
 use Rattle.fingerprint_lists.specs.Arrays.{span}
 use Rattle.reports.specs.Lines.{each, alpn_label}
 use Rattle.reports.specs.Code.{span_parts}
-use Rattle.reports.proofs.PartLaws.{list-start, list-next, list-end, each_next}
+use Rattle.reports.proofs.PartLaws.{list-start, list-next, each_next}
 use borrow.Author.Rules.{rules}
 use native.Mathlib.Omega.{arith}
 use Rattle.reports.proofs.names.put_protocols.Invariants.{parts}
@@ -18,12 +18,6 @@ loop-i-init c =
     let text = c.put_text-at in
     list-start alpn_label (parts args.hello.now args.spans) args.count text.result text.new.out refl (search rules)
 
-pub bounds-spans-i : goal.bounds-spans-i
-bounds-spans-i c = omega (arith, c.requires.0.long, c.requires.0.few)
-
-pub put_range-at-requires : goal.put_range-at-requires
-put_range-at-requires c = c.requires.1 c.loop-i.i c.loop-i-test.true
-
 pub loop-i-preserved : goal.loop-i-preserved
 loop-i-preserved c =
     let args = c.args in
@@ -33,10 +27,3 @@ loop-i-preserved c =
     let inside : l.i < length args.spans = omega (arith, c.requires.0.long, c.requires.0.few) in
     list-next alpn_label (parts args.hello.now args.spans) args.count text.result text.new.out l.at l.i l.out l.invariant range.result _ range.new.out
     c.loop-i-test.true (each_next args.spans l.i (span 0 0) inside (span_parts args.hello.now)) range.auto.out range.ensures
-
-pub returns : goal.returns
-returns c =
-    let args = c.args in
-    let text = c.put_text-at in
-    let l = c.loop-i in
-    list-end alpn_label (parts args.hello.now args.spans) args.count text.result text.new.out l.at l.i l.out l.invariant args.out.now c.loop-i-test.false text.ensures

@@ -1,16 +1,12 @@
 -- `reports::names::put_sni` meets its contract: the parts are those of the case that the name is. Assumes nothing.
-use mathlib.Core.Path.{refl, sym, ap, subst}
+use mathlib.Core.Path.{refl, sym, ap}
 use mathlib.Core.List.{[], ◌∷◌}
 use Rattle.std.specs.Prelude.{Option}
 use Rattle.fingerprint_lists.specs.declared.Span.{Span}
 use Rattle.script_writing.proofs.AnswerLaws.{all-as, written_one, written-more}
 use Rattle.reports.specs.Lines.{name_label, none_word}
-use Rattle.fingerprint.specs.InRange.{SniInside}
 use Rattle.reports.specs.Code.{span_parts, sni_parts}
 use Rattle.reports.proofs.names.put_sni.Goals as goal
-
-pub put_range-requires : goal.put_range-requires
-put_range-requires c = subst (λ (x : Option Span). SniInside c.args.hello.now x) c.in-Some.is c.requires
 
 pub returns-in-Some : goal.returns-in-Some
 returns-in-Some c =

@@ -1,20 +1,13 @@
 -- `put_pairs` meets its contract: the bytes of the pairs passed stand at the front of the output. Assumes nothing.
-use Rattle.std.proofs.Common.{ℕ, ◌+◌, ◌*◌, List, set, refl, ap, ◌∙◌, arith, length-set, take_all}
+use Rattle.std.proofs.Common.{ℕ, List, set, refl, ap, ◌∙◌, arith, length-set, take_all}
 use Rattle.wire.specs.Front.{front}
 use Rattle.wire.proofs.FrontLaws.{front-none, front-more}
-use Rattle.script.specs.Hex.{is_hex, pairs}
-use Rattle.script.proofs.ScanLaws.{all-at}
+use Rattle.script.specs.Hex.{pairs}
 use Rattle.script.proofs.HexLaws.{length_pairs, pairs-at}
 use Rattle.script.proofs.reading.put_pairs.Goals as goal
 
 pub loop-i-init : goal.loop-i-init
 loop-i-init c = (front-none _, refl)
-
-pub hex_byte-requires : goal.hex_byte-requires
-hex_byte-requires c =
-    let s = c.args.text.now in
-    let i = c.loop-i.i in
-    (all-at is_hex s (2 * i) (omega arith) c.requires.0, all-at is_hex s (2 * i + 1) (omega arith) c.requires.0)
 
 pub bounds-out-i : goal.bounds-out-i
 bounds-out-i c = omega (arith, length_pairs c.args.text.now)

@@ -1,14 +1,9 @@
 -- `script::reading::read_run` meets its contract: what `read_number` says of the part before the star picks the case. Assumes nothing.
-use Rattle.std.proofs.Common.{ℕ, ◌+◌, ◌-◌, List, length, take, drop, sym, ap, ◌∙◌, arith, length-take-le}
+use Rattle.std.proofs.Common.{ℕ, ◌+◌, ◌-◌, List, length, take, drop, sym, ap, ◌∙◌}
 use Rattle.wire.proofs.ListLaws.{part_to_end}
 use Rattle.script.specs.Piece.{times_of, run_of}
 use Rattle.script.proofs.PieceLaws.{run_is, run-other, read_as, read-malformed}
 use Rattle.script.proofs.reading.read_run.Goals as goal
-
-pub slice_bounds-read_number-end : goal.slice_bounds-read_number-end
-slice_bounds-read_number-end c =
-    let start = c in
-    sym (length-take-le start.args.star start.args.text.now (omega (arith, start.requires)))
 
 pub returns-in-Some : goal.returns-in-Some
 returns-in-Some c =

@@ -2,12 +2,11 @@
 use Rattle.std.proofs.Common.{◌≡◌, ℕ, length-take-le, get_or, replicate, sym, ap, ◌∙◌, arith}
 use lib.ListN.{length-replicate}
 use Rattle.wire.proofs.FrontLaws.{front-replicate}
-use Rattle.script.specs.Hex.{is_hex, hex_byte}
+use Rattle.script.specs.Hex.{hex_byte}
 use Rattle.script.specs.Piece.{bytes, times_of}
 use Rattle.std.specs.Prelude.{Ok, Err}
 use Rattle.script.specs.declared.reading.NoPiece.TheVariants as no
 use Rattle.script.specs.declared.reading.Piece.TheVariants as piece
-use Rattle.script.proofs.ScanLaws.{all-at}
 use Rattle.script.proofs.PieceLaws.{times-length, times-other, times-are, read_as, read-malformed, read-bytes, read-too-long}
 use Rattle.script.proofs.reading.read_times.Goals as goal
 
@@ -27,17 +26,6 @@ returns-then-out-times c =
     (sym c.all_hex.ensures ∙ c.if-all_hex.true))
     (read-too-long t start.args.out.now
     (omega (arith, length-replicate start.args.n (hex_byte (get_or d 0 0) (get_or d 1 0)), c.if-out-times.true)))
-
-pub hex_byte-requires : goal.hex_byte-requires
-hex_byte-requires c =
-    let start = c in
-    let if2 = c.if-all_hex in
-    let all-hex = c.all_hex in
-    let if1 = c.if-digits-ne2 in (
-      all-at is_hex start.args.digits.now 0 (omega (arith, if1.false)) (sym all-hex.ensures ∙ if2.true),
-      all-at is_hex
-          start.args.digits.now 1 (omega (arith, if1.false)) (sym all-hex.ensures ∙ if2.true),
-    )
 
 pub returns-else-out-times : goal.returns-else-out-times
 returns-else-out-times c =

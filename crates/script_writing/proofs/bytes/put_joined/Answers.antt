@@ -8,7 +8,7 @@ use Rattle.script.specs.Scan.{plus}
 use Rattle.script_writing.specs.Hex.{hex_text}
 use Rattle.script_writing.specs.Shown.{run_text, joined_text}
 use Rattle.script_writing.proofs.HexLaws.{length-hex_text}
-use Rattle.script_writing.proofs.ShownLaws.{written, not_written, was-written, stored-lent, stored-lent-same, length-run_text, length-joined-run}
+use Rattle.script_writing.proofs.ShownLaws.{written, not_written, was-written, stored-lent, length-run_text, length-joined-run}
 use Rattle.script_writing.proofs.bytes.put_joined.Goals as goal
 use Rattle.script_writing.proofs.bytes.put_joined.Goals.{After-put_hex-at}
 
@@ -57,12 +57,6 @@ slice_bounds-put_run-count c = simp length-set (omega (arith, place (goal.at.sli
 
 pub slice_bounds-put_run-start : goal.slice_bounds-put_run-start
 slice_bounds-put_run-start c = simp length-set (omega (arith, place (goal.at.slice_bounds-put_run-start c).After-put_hex-at, c.if-out-after.false, c.if-out-after-2.false))
-
-pub shape_of-out : goal.shape_of-out
-shape_of-out c =
-    let hex = c.put_hex-at in
-    let run = c.put_run in
-    stored-lent-same hex.new.out run.new.out plus hex.result run.auto.out ∙ hex.auto.out
 
 pub returns : goal.returns
 unfolding joined_text

@@ -1,6 +1,5 @@
 -- `script_writing::bytes::put_operand` meets its contract: each test is one of the definition's. Assumes nothing.
 use Prim.Native.Nat.{◌-◌, ◌<◌}
-use mathlib.Core.Path.{sym}
 use mathlib.Core.List.{[], ◌∷◌}
 use native.Mathlib.Omega.{arith}
 use lib.ListN.{length, take}
@@ -38,12 +37,6 @@ returns-then-head-eq0 c =
     (shown-run s k c.if-n-eq0.false trailing-run.ensures.0
     c.if-run-lt8.false c.if-head-eq0.true)
     c.put_run.ensures
-
-pub slice_bounds-put_joined-end : goal.slice_bounds-put_joined-end
-slice_bounds-put_joined-end c =
-    let start = c in
-    sym (length-take-le (length start.args.bytes.now - c.trailing_run-run.result)
-    start.args.bytes.now (omega arith))
 
 pub returns : goal.returns
 returns c =

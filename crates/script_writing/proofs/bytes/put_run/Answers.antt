@@ -2,14 +2,13 @@
 use Prim.Native.Nat.{◌+◌}
 use mathlib.Core.Path.{◌≡◌, sym, ◌∙◌}
 use native.Mathlib.Omega.{arith}
-use lib.ListN.{length, length-take, length-drop, length-set}
-use borrow.Author.Rules.{rules}
+use lib.ListN.{length}
 use Rattle.script.specs.Scan.{star}
 use Rattle.script_writing.specs.Decimal.{decimal_text}
 use Rattle.script_writing.specs.Hex.{hex_pair}
 use Rattle.script_writing.specs.Shown.{run_text}
 use Rattle.script_writing.proofs.DigitLaws.{length-decimal_text}
-use Rattle.script_writing.proofs.ShownLaws.{written, not_written, was-written, stored-lent, stored-lent-same, length-run_text}
+use Rattle.script_writing.proofs.ShownLaws.{written, not_written, was-written, stored-lent, length-run_text}
 use Rattle.script_writing.proofs.bytes.put_run.Goals as goal
 
 pub returns-then-out-width : goal.returns-then-out-width
@@ -17,12 +16,6 @@ returns-then-out-width c =
     let args = c.args in
     not_written (run_text args.times args.byte) args.out.now
     (omega (arith, length-run_text args.times args.byte, c.decimal_width-width.ensures.0, c.if-out-width.true))
-
-pub shape_of-out : goal.shape_of-out
-shape_of-out c =
-    let number = c.put_decimal in
-    let pair = c.put_pair in
-    stored-lent-same number.new.out pair.new.out star c.decimal_width-width.result pair.auto.out ∙ number.auto.out
 
 pub returns : goal.returns
 unfolding run_text
@@ -40,12 +33,3 @@ returns c =
     let first = was-written (decimal_text t) number.result old number.new.out number.ensures (omega (arith, long, fits)) in
     written (run_text t args.byte) (w + 3) old _ (omega (arith, all, width.ensures.0, fits)) (omega (arith, all, width.ensures.0))
     (stored-lent number.new.out pair.new.out star w (decimal_text t) (hex_pair args.byte) old long (omega (arith, fits)) first.output pair.ensures)
-
-pub slice_bounds-put_pair-count : goal.slice_bounds-put_pair-count
-slice_bounds-put_pair-count c = simp length-set (search rules)
-
-pub slice_bounds-put_pair-start : goal.slice_bounds-put_pair-start
-slice_bounds-put_pair-start c = simp length-set (search rules)
-
-pub put_pair-requires : goal.put_pair-requires
-put_pair-requires c = simp (length-take, length-drop, length-set) (omega arith)

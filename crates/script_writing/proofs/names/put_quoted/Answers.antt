@@ -1,16 +1,15 @@
 -- `script_writing::names::put_quoted` meets its contract: the quote, the name and the quote are written one after the other. Assumes nothing.
 use Prim.Native.Nat.{ℕ, ◌+◌, ◌-◌}
-use mathlib.Core.Path.{◌≡◌, refl, ◌∙◌}
+use mathlib.Core.Path.{◌≡◌, refl}
 use mathlib.Core.List.{List, [], ◌∷◌}
 use native.Mathlib.Omega.{arith}
-use lib.ListN.{length, set, length-take, length-drop, length-set}
+use lib.ListN.{length, set}
 use borrow.Rule.Slice.PartMut.{put_mid}
-use borrow.Author.Rules.{rules}
 use Rattle.wire.specs.Front.{front}
 use Rattle.wire.proofs.FrontLaws.{front-none}
 use Rattle.script.specs.Scan.{quote}
 use Rattle.script_writing.specs.Names.{quoted}
-use Rattle.script_writing.proofs.ShownLaws.{written, not_written, stored-after, stored-lent, stored-lent-same}
+use Rattle.script_writing.proofs.ShownLaws.{written, not_written, stored-after, stored-lent}
 use Rattle.script_writing.proofs.NameLaws.{length-quoted}
 use Rattle.script_writing.proofs.names.put_quoted.Goals as goal
 
@@ -28,14 +27,6 @@ returns-then-out-n c =
 abbrev opened : List ℕ → List ℕ → List ℕ
 opened old name = put_mid 1 (length (set old 0 quote) - 1) (set old 0 quote) name
 
-pub bounds-out-n : goal.bounds-out-n
-bounds-out-n c = rw (stored-lent-same c.args.out.now c.put_bytes.new.out quote 0 c.put_bytes.auto.out) (omega (arith, c.if-out-n.false))
-
-pub shape_of-out : goal.shape_of-out
-shape_of-out c =
-    length-set (opened c.args.out.now c.put_bytes.new.out) (length c.args.name.now + 1) quote
-    ∙ stored-lent-same c.args.out.now c.put_bytes.new.out quote 0 c.put_bytes.auto.out
-
 pub returns : goal.returns
 unfolding quoted
 returns c =
@@ -47,12 +38,3 @@ returns c =
     let stands : opened old name.new.out ≡ front (quote ∷ s) old = stored-lent old name.new.out quote 0 [] s old refl (omega arith) (front-none old) name.ensures.output in
     written (quoted s) (length s + 2) old _ (omega (arith, long, fits)) (omega (arith, long))
     (stored-after (quote ∷ s) old (opened old name.new.out) quote (length s + 1) (omega arith) (omega (arith, fits)) stands)
-
-pub slice_bounds-put_bytes-count : goal.slice_bounds-put_bytes-count
-slice_bounds-put_bytes-count c = simp length-set (search rules)
-
-pub slice_bounds-put_bytes-start : goal.slice_bounds-put_bytes-start
-slice_bounds-put_bytes-start c = simp length-set (search rules)
-
-pub put_bytes-requires : goal.put_bytes-requires
-put_bytes-requires c = simp (length-take, length-drop, length-set) (omega arith)

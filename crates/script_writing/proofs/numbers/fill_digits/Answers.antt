@@ -1,11 +1,8 @@
 -- `fill_digits` meets its contract: the digits of what is left, and then those written, are the number's digits. Assumes nothing.
 use native.Mathlib.Omega.{arith}
 use Rattle.script_writing.specs.Hex.{hex_letter}
-use Rattle.script_writing.proofs.DigitLaws.{fill_start, fill-next, fill_end}
+use Rattle.script_writing.proofs.DigitLaws.{fill-next, fill_end}
 use Rattle.script_writing.proofs.numbers.fill_digits.Goals as goal
-
-pub loop-k-init : goal.loop-k-init
-loop-k-init g c = fill_start g.row.BASE hex_letter c.args.n c.args.part.now
 
 pub loop-k-preserved : goal.loop-k-preserved
 loop-k-preserved g c =

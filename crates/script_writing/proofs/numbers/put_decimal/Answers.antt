@@ -1,11 +1,10 @@
 -- `script_writing::numbers::put_decimal` meets its contract: the part of the number's width is filled with its digits. Assumes nothing.
 use Prim.Native.Nat.{ℕ}
-use mathlib.Core.Path.{refl, sym, ap, ◌∙◌}
+use mathlib.Core.Path.{refl, ap, ◌∙◌}
 use mathlib.Core.List.{[]}
 use native.Mathlib.Omega.{arith}
 use Rattle.wire.specs.Front.{front}
 use Rattle.wire.proofs.FrontLaws.{front-none}
-use lib.Seq.{length-take-le}
 use Rattle.script_writing.specs.Decimal.{decimal_digits, decimal_text}
 use Rattle.script_writing.proofs.DigitLaws.{length-decimal_digits, length-decimal_text, digits-decimal, filled-after}
 use Rattle.script_writing.proofs.ShownLaws.{written, not_written}
@@ -16,11 +15,6 @@ returns-then-out-width c =
     let start = c in
     not_written (decimal_text start.args.n) start.args.out.now
     (omega (arith, length-decimal_text start.args.n, c.decimal_width-width.ensures.0, c.if-out-width.true))
-
-pub slice_bounds-fill_digits-end-2 : goal.slice_bounds-fill_digits-end-2
-slice_bounds-fill_digits-end-2 c =
-    let start = c in
-    sym (length-take-le c.decimal_width-width.result start.args.out.now c.if-out-width.false)
 
 pub returns : goal.returns
 unfolding decimal_text

@@ -3,6 +3,7 @@ use Prim.Native.Nat.{◌≤◌, ◌<◌}
 use native.Mathlib.Omega.{arith}
 use lib.ListN.{length}
 use Rattle.wire.proofs.ListLaws.{length_part}
+use Rattle.show_lines.specs.Rows.{cursor_of}
 use Rattle.show_lines.proofs.PartLaws.{part-within}
 use Rattle.show_lines.proofs.CodeLaws.{line-found}
 use Rattle.show_lines.proofs.cursor.line_at.Goals as goal
@@ -17,7 +18,7 @@ on c =
 within : (c : After-part_end-end) → c.part_end-end.result ≤ length c.args.hello.now
 within c =
     let start = c in
-    rw c.part_end-end.ensures (part-within (length start.args.hello.now) start.args.c start.requires.1)
+    rw c.part_end-end.ensures (part-within (length start.args.hello.now) (cursor_of start.args.c) start.requires.1)
 
 pub slice_bounds-line_of-count : goal.slice_bounds-line_of-count
 slice_bounds-line_of-count c = omega (arith, on c)
@@ -40,5 +41,5 @@ pub returns : goal.returns
 returns c =
     let at-end = c in
     let start = at-end in
-    line-found start.args.hello.now start.args.c (λ i. (at-end.type_inv.hello i).fits) start.requires.1
+    line-found start.args.hello.now (cursor_of start.args.c) (λ i. (at-end.type_inv.hello i).fits) start.requires.1
     start.requires.2 _ at-end.part_end-end.ensures _ c.line_of.ensures

@@ -1,52 +1,54 @@
 -- A line by its row of the grammar. Assumes nothing.
 use Prim.Native.Nat.{◌≤◌}
-use mathlib.Core.Path.{ap, ◌∙◌}
+use mathlib.Core.Path.{sym, ap, ◌∙◌}
 use Rattle.show_lines.proofs.GrammarLaws.{width-in-front}
-use Rattle.show_lines.specs.Rows.{form_number}
+use Rattle.show_lines.specs.Rows.{kind_number, form_number}
+use Rattle.show_lines.specs.declared.grammar.Kind.TheVariants as kind
+use Rattle.show_lines.proofs.KindLaws.{same-number, other-number}
 use Rattle.show_lines.proofs.CodeLaws.{no_vector, line-parameter, line-all, line-cut, few_bytes, line-vector, line_plain}
 use Rattle.show_lines.proofs.cursor.line_of.Goals as goal
-use Rattle.show_lines.proofs.cursor.line_of.Goals.{After-row_of-kind}
+use Rattle.show_lines.proofs.cursor.line_of.Goals.{After-row_of-row}
 
-narrow : (c : After-row_of-kind) → c.row_of-kind.result.width ≤ c.row_of-kind.result.front
-narrow c = rw (c.row_of-kind.ensures.width, c.row_of-kind.ensures.front) (width-in-front c.args.what)
+narrow : (c : After-row_of-row) → c.row_of-row.result.width ≤ c.row_of-row.result.front
+narrow c = rw (c.row_of-row.ensures.width, c.row_of-row.ensures.front) (width-in-front (kind_number c.args.kind))
 
-pub returns-then-what-eq-PARAMETER : goal.returns-then-what-eq-PARAMETER
-returns-then-what-eq-PARAMETER c =
+pub returns-then-eq : goal.returns-then-eq
+returns-then-eq c =
     let args = c.args in
-    c.parameter.ensures ∙ line-parameter args.what args.at args.rest.now c.if-what-eq-PARAMETER.true
+    c.parameter.ensures ∙ line-parameter (kind_number args.kind) args.at args.rest.now (same-number _ kind.Parameter (sym c.if-eq.ensures))
 
 pub returns-then-front-eq0 : goal.returns-then-front-eq0
 returns-then-front-eq0 c =
     let args = c.args in
-    line-all args.what args.at args.rest.now c.if-what-eq-PARAMETER.false _ c.row_of-kind.ensures.front c.if-front-eq0.true
+    line-all (kind_number args.kind) args.at args.rest.now (other-number _ kind.Parameter (sym c.if-eq.ensures)) _ c.row_of-row.ensures.front c.if-front-eq0.true
 
 pub returns-then-rest-front : goal.returns-then-rest-front
 returns-then-rest-front c =
     let args = c.args in
-    line-cut args.what args.at args.rest.now c.if-what-eq-PARAMETER.false _ c.row_of-kind.ensures.front
+    line-cut (kind_number args.kind) args.at args.rest.now (other-number _ kind.Parameter (sym c.if-eq.ensures)) _ c.row_of-row.ensures.front
     c.if-front-eq0.false c.if-rest-front.true
 
 pub overflow_sub-front : goal.overflow_sub-front
-overflow_sub-front c = narrow (goal.at.overflow_sub-front c).After-row_of-kind
+overflow_sub-front c = narrow (goal.at.overflow_sub-front c).After-row_of-row
 
 pub number-said-requires : goal.number-said-requires
 number-said-requires c =
-    let kind = c.row_of-kind.ensures in
-    few_bytes c.args.what c.args.rest.now _ _ kind.front kind.width c.if-rest-front.false
+    let row = c.row_of-row.ensures in
+    few_bytes (kind_number c.args.kind) c.args.rest.now _ _ row.front row.width c.if-rest-front.false
 
 pub returns-in-Vector : goal.returns-in-Vector
 returns-in-Vector c =
     let args = c.args in
-    let kind = c.row_of-kind.ensures in
+    let row = c.row_of-row.ensures in
     c.vector.ensures
-    ∙ line-vector args.what args.at args.rest.now c.if-what-eq-PARAMETER.false _ kind.front
-    c.if-front-eq0.false c.if-rest-front.false _ _ kind.width c.number-said.ensures.0
-    _ kind.form (ap form_number c.in-Vector.is)
+    ∙ line-vector (kind_number args.kind) args.at args.rest.now (other-number _ kind.Parameter (sym c.if-eq.ensures)) _ row.front
+    c.if-front-eq0.false c.if-rest-front.false _ _ row.width c.number-said.ensures.0
+    _ row.form (ap form_number c.in-Vector.is)
 
 pub returns-in_default : goal.returns-in_default
 returns-in_default c =
     let args = c.args in
-    let kind = c.row_of-kind.ensures in
-    line_plain args.what args.at args.rest.now c.if-what-eq-PARAMETER.false _ kind.front
-    c.if-front-eq0.false c.if-rest-front.false _ _ kind.width c.number-said.ensures.0
-    _ kind.form (no_vector c.row_of-kind.result.form c.in_default.not-Vector)
+    let row = c.row_of-row.ensures in
+    line_plain (kind_number args.kind) args.at args.rest.now (other-number _ kind.Parameter (sym c.if-eq.ensures)) _ row.front
+    c.if-front-eq0.false c.if-rest-front.false _ _ row.width c.number-said.ensures.0
+    _ row.form (no_vector c.row_of-row.result.form c.in_default.not-Vector)

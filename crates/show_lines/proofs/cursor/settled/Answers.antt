@@ -2,25 +2,25 @@
 use mathlib.Core.Path.{◌≡◌, sym, ap, ◌∙◌}
 use borrow.Author.Tests.{lt-ltb, le-ltb}
 use Rattle.show_lines.specs.Lines.{part_of, settled}
-use Rattle.show_lines.specs.Rows.{part_number}
+use Rattle.show_lines.specs.Rows.{kind_number, part_number}
 use Rattle.show_lines.proofs.PartLaws.{NoPart, hello_part, in-suites, in_block, in_body, in_list, in-none}
 use Rattle.show_lines.proofs.cursor.settled.Goals as goal
 use Rattle.show_lines.proofs.cursor.settled.Goals.{In-Suites, In-Block, In-Body, In-List, In-Hello}
 
 -- the part, by the arm
-suites : (c : In-Suites) → part_of c.args.c.what ≡ 1
+suites : (c : In-Suites) → part_of (kind_number c.args.c.kind) ≡ 1
 suites c = sym c.row_of.ensures.part ∙ ap part_number c.in-Suites.is
 
-block : (c : In-Block) → part_of c.args.c.what ≡ 2
+block : (c : In-Block) → part_of (kind_number c.args.c.kind) ≡ 2
 block c = sym c.row_of.ensures.part ∙ ap part_number c.in-Block.is
 
-body : (c : In-Body) → part_of c.args.c.what ≡ 3
+body : (c : In-Body) → part_of (kind_number c.args.c.kind) ≡ 3
 body c = sym c.row_of.ensures.part ∙ ap part_number c.in-Body.is
 
-list : (c : In-List) → part_of c.args.c.what ≡ 4
+list : (c : In-List) → part_of (kind_number c.args.c.kind) ≡ 4
 list c = sym c.row_of.ensures.part ∙ ap part_number c.in-List.is
 
-hello : (c : In-Hello) → NoPart (part_of c.args.c.what)
+hello : (c : In-Hello) → NoPart (part_of (kind_number c.args.c.kind))
 hello c = hello_part (sym c.row_of.ensures.part ∙ ap part_number c.in-Hello.is)
 
 pub returns-then-c : goal.returns-then-c

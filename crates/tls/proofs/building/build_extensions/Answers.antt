@@ -5,7 +5,6 @@ use mathlib.Core.List.{map}
 use native.Mathlib.Omega.{arith}
 use lib.ListN.{length, drop, get_or, length-map, get_or-map}
 use lib.Seq.{drop-length}
-use Rattle.wire.proofs.Writing.{same_length as kept, place-within}
 use Rattle.profiles.specs.Code.{type_number, profile_of}
 use Rattle.tape.specs.Part.{followed}
 use Rattle.tape.proofs.PartLaws.{Drawing, starts, same-part, part_room, part-next, part-finished}
@@ -42,12 +41,6 @@ type-is c = get_or-map type_number c.args.types.now c.loop-t.t-index (record { 0
 
 pub loop-t-init : goal.loop-t-init
 loop-t-init c = starts _ c.args.out.now c.requires.has.fits
-
-pub slice_bounds-build_extension-count : goal.slice_bounds-build_extension-count
-slice_bounds-build_extension-count c = place-within c.loop-t.invariant.writing
-
-pub slice_bounds-build_extension-start : goal.slice_bounds-build_extension-start
-slice_bounds-build_extension-start c = place-within c.loop-t.invariant.writing
 
 pub build_extension-w-requires : goal.build_extension-w-requires
 build_extension-w-requires c =
@@ -92,9 +85,6 @@ loop-t-preserved c =
     let next = build_extension p args.name.now args.scid.now args.tape.now (get_or types loop.t-index 0) loop.next in
     let later = build_extensions p args.name.now args.scid.now args.tape.now (drop (loop.t-index + 1) types) in
     part-next next later (here in-loop) (rw (← (type-is in-loop)) at c.build_extension-w.ensures)
-
-pub shape_of-out : goal.shape_of-out
-shape_of-out c = kept c.loop-t.invariant.writing
 
 pub returns : goal.returns
 unfolding build_extensions

@@ -1,6 +1,5 @@
 -- The list is the front of an array; `ext_supported_groups` writes it. Assumes nothing.
 use Prim.Native.Nat.{◌≤◌}
-use mathlib.Core.Path.{sym}
 use native.Mathlib.Omega.{arith}
 use lib.ListN.{length}
 use lib.Seq.{length-take-le}
@@ -15,9 +14,6 @@ use Rattle.tls.proofs.building.groups.Goals.{Start}
 within : (c : Start) → c.args.profile.group_count ≤ length c.args.profile.supported_groups
 within c = omega (arith, (arrays c.args.profile c.well_formed.1.0).groups, c.requires.0.groups)
 
-pub slice_bounds-ext_supported_groups-end : goal.slice_bounds-ext_supported_groups-end
-slice_bounds-ext_supported_groups-end c = sym (length-take-le c.args.profile.group_count c.args.profile.supported_groups (within (goal.at.slice_bounds-ext_supported_groups-end c).Start))
-
 pub ext_supported_groups-requires : goal.ext_supported_groups-requires
 ext_supported_groups-requires c =
     let start = (goal.at.ext_supported_groups-requires c).Start in
@@ -25,6 +21,3 @@ ext_supported_groups-requires c =
     let long = length-take-le p.group_count p.supported_groups (within start) in
     let count = length-firsts group_number p.supported_groups p.group_count (within start) in
     (omega (arith, start.requires.1, length-u16-list 10 (groups_in p.group_count p.supported_groups), count, long), omega (arith, long, start.requires.0.groups))
-
-pub returns : goal.returns
-returns c = c.ext_supported_groups.ensures

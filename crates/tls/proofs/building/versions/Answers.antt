@@ -1,6 +1,5 @@
 -- The list is the front of an array; `ext_supported_versions` writes it. Assumes nothing.
 use Prim.Native.Nat.{◌≤◌}
-use mathlib.Core.Path.{sym}
 use native.Mathlib.Omega.{arith}
 use lib.ListN.{length, take}
 use lib.Seq.{length-take-le}
@@ -13,9 +12,6 @@ use Rattle.tls.proofs.building.versions.Goals.{Start}
 within : (c : Start) → c.args.profile.version_count ≤ length c.args.profile.supported_versions
 within c = omega (arith, (arrays c.args.profile c.well_formed.1.0).versions, c.requires.0.versions)
 
-pub slice_bounds-ext_supported_versions-end : goal.slice_bounds-ext_supported_versions-end
-slice_bounds-ext_supported_versions-end c = sym (length-take-le c.args.profile.version_count c.args.profile.supported_versions (within (goal.at.slice_bounds-ext_supported_versions-end c).Start))
-
 pub ext_supported_versions-requires : goal.ext_supported_versions-requires
 ext_supported_versions-requires c =
     let start = (goal.at.ext_supported_versions-requires c).Start in
@@ -23,6 +19,3 @@ ext_supported_versions-requires c =
     let n = start.args.profile.version_count in
     let long = length-take-le n list (within start) in
     (omega (arith, start.requires.1, length-supported-versions (take n list)), omega (arith, long, start.requires.0.versions))
-
-pub returns : goal.returns
-returns c = c.ext_supported_versions.ensures

@@ -1,9 +1,6 @@
 -- The tests are the questions, in their order; the sums are those that `Sound` names. Assumes nothing.
-use Prim.Native.Nat.{◌*◌, ◌≤◌}
-use native.Mathlib.Nat.{mul-le-mul}
 use borrow.Author.Tests.{le-leb, lt-leb}
 use Rattle.tls.specs.Make.{ask_room}
-use native.Mathlib.Omega.{arith}
 use Rattle.tls.proofs.making.ask_room.Goals as goal
 
 pub returns-then-scid-gt20 : goal.returns-then-scid-gt20
@@ -16,22 +13,6 @@ returns-then-tape-profile c =
     let if1 = c.if-scid-gt20 in
     let pre = c.requires in
     simp (le-leb _ _ if1.false, lt-leb _ _ (rw pre.0.tape at c.if-tape-profile.true))
-
-pub overflow_mul-profile : goal.overflow_mul-profile
-overflow_mul-profile c =
-    let args = c.args in
-    let pre = c.requires in
-    let if1 = c.if-scid-gt20 in
-    let product : args.profile.scid_sources * args.scid ≤ 16 * 20 = mul-le-mul pre.0.few if1.false in
-    omega arith
-
-pub overflow_add-profile-2 : goal.overflow_add-profile-2
-overflow_add-profile-2 c =
-    let pre = c.requires in
-    let if1 = c.if-scid-gt20 in
-    let args = c.args in
-    let product : args.profile.scid_sources * args.scid ≤ 16 * 20 = mul-le-mul pre.0.few if1.false in
-    omega (arith, pre.0.short, pre.1)
 
 pub returns-then-room-profile : goal.returns-then-room-profile
 unfolding ask_room

@@ -1,9 +1,5 @@
 -- The loop keeps: `plain` is the test of the bytes before the next one. Assumes nothing.
-use mathlib.Core.Path.{ap, ◌∙◌}
-use lib.Seq.{take_all}
-use Rattle.tls.specs.Make
 use Rattle.tls.proofs.NameLaws.{plain-none, plain_more}
-use native.Mathlib.Omega.{arith}
 use Rattle.tls.proofs.making.is_plain.Goals as goal
 
 pub loop-b-init : goal.loop-b-init
@@ -13,8 +9,3 @@ pub loop-b-preserved : goal.loop-b-preserved
 loop-b-preserved c =
     let loop = c.loop-b in
     rw loop.invariant (plain_more c.args.name.now loop.b-index c.loop-b-test.true)
-
-pub returns : goal.returns
-returns c =
-    let loop = c.loop-b in
-    loop.invariant ∙ ap Make.plain (take_all loop.b-index _ (omega arith))

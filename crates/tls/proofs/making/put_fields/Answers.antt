@@ -1,6 +1,5 @@
 -- Version and random, session id, suites, each to the part after the last. Assumes nothing.
 use Prim.Native.Nat.{◌+◌, ◌≤◌}
-use mathlib.Core.Path.{sym}
 use mathlib.Core.List.{◌++◌}
 use lib.ListN.{length}
 use lib.Seq.{length-take-le}
@@ -80,11 +79,6 @@ slice_bounds-put_suites-count c = place-within (session c)
 
 pub slice_bounds-put_suites-start : goal.slice_bounds-put_suites-start
 slice_bounds-put_suites-start c = place-within (session c)
-
-pub slice_bounds-put_suites-end-2 : goal.slice_bounds-put_suites-end-2
-slice_bounds-put_suites-end-2 c =
-    let start = (goal.at.slice_bounds-put_suites-end-2 c).Start in
-    sym (length-take-le start.args.profile.suite_count start.args.profile.cipher_suites (few start))
 
 pub put_suites-requires : goal.put_suites-requires
 put_suites-requires c =

@@ -1,14 +1,7 @@
 -- `append` adds bytes where they fit; the part of the line after those it has is lent and comes back. Assumes nothing.
 use Rattle.std.proofs.Common.{◌-◌, length, refl, arith, le-leb}
-use borrow.Author.Tests.{lt-leb}
 use Rattle.wire.proofs.FrontLaws.{lent-front-at}
 use Rattle.script.proofs.input.Input.append.Goals as goal
-
-pub returns-then-line-length : goal.returns-then-line-length
-returns-then-line-length c =
-    let n = length c.args.part.now in
-    let room = length c.args.line.now - c.args.self.length in
-    record { is = rw (lt-leb n room c.if-line-length.true); output = rw (lt-leb n room c.if-line-length.true); within = c.requires }
 
 pub returns : goal.returns
 returns c =
