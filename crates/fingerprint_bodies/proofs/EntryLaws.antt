@@ -1,5 +1,5 @@
 -- Entries one after the other: what a loop over them needs. Assumes nothing.
-use mathlib.Core.Path.{◌≡◌, refl, ap, ◌∙◌}
+use mathlib.Core.Path.{◌≡◌, refl, sym, ap, ◌∙◌}
 use Prim.Native.Nat.{ℕ, zero, suc, ◌+◌, ◌-◌, ◌≤◌, ◌<◌}
 use native.Mathlib.Omega.{arith}
 use native.Mathlib.Nat.{sub-zero}
@@ -7,7 +7,7 @@ use mathlib.Core.List.{List, [], ◌∷◌}
 use mathlib.Core.Option.{Option, none, some}
 use lib.ListN.{length, drop, get_or, drop_of_length-le}
 use lib.Seq.{drop-cons, drop-drop}
-use Rattle.fingerprint_bodies.specs.Entries.{Entry, entry, bind, or_empty, first, entries, all_entries}
+use Rattle.fingerprint_bodies.specs.Entries.{Entry, entry, bind, mapped, or_empty, first, entries, all_entries, passing}
 
 module _ {A : Type 0} (one : List ℕ → Option (Entry A)) (l : List ℕ) where
   -- the entries from a place on, after k of them: what an invariant speaks of
@@ -68,6 +68,29 @@ module _ {A : Type 0} (one : List ℕ → Option (Entry A)) (l : List ℕ) where
   pub count-end : (k at : ℕ) → length l ≤ at → plus k (left one l k at) ≡ some k
   unfolding plus
   count-end k at h = ap (λ x. plus k x) (left_end one l k at h) ∙ ap (λ (n : ℕ). some n) (omega arith)
+
+-- a form without its value counts the same
+module _ {A : Type 0} (one : List ℕ → Option (Entry A)) where
+  pub passing-some : (bs r : List ℕ) (v : A) → one bs ≡ some (entry v r) → passing one bs ≡ some (entry (tt {0}) r)
+  unfolding passing mapped
+  passing-some bs r v e = rw e
+
+  pub passing-none : (bs : List ℕ) → one bs ≡ none → passing one bs ≡ none
+  unfolding passing mapped
+  passing-none bs e = rw e
+
+  pub count-passing : (k f : ℕ) (bs : List ℕ) → plus k (entries (passing one) f bs) ≡ plus k (entries one f bs)
+  unfolding entries passing mapped bind plus
+  count-passing k zero bs = refl
+  count-passing k (suc f) [] = refl
+  count-passing k (suc f) (b ∷ bs) = go (λ r. count-passing (k + 1) f r) (one (b ∷ bs))
+    where
+      go : ((r : List ℕ) → plus (k + 1) (entries (passing one) f r) ≡ plus (k + 1) (entries one f r)) → (x : Option (Entry A))
+          → plus k (bind (mapped (λ e. entry (tt {0}) e.rest) x) (λ e. first e.value (entries (passing one) f e.rest)))
+          ≡ plus k (bind x (λ e. first e.value (entries one f e.rest)))
+      go next none = refl
+      go next (some v) =
+          plus-first k (tt {0}) (entries (passing one) f v.rest) ∙ next v.rest ∙ sym (plus-first k v.value (entries one f v.rest))
 
 -- what the count says of the list
 pub plus_none : {A : Type 0} (x : Option (List A)) → plus 0 x ≡ none → x ≡ none

@@ -1,6 +1,6 @@
 -- A whole body, by what the code asks of it. Assumes nothing.
-use Prim.Native.Nat.{ℕ, ◌-◌, ◌*◌, ◌%◌, ◌≤◌, ◌<◌}
-use mathlib.Core.Path.{◌≡◌, refl, ◌∙◌}
+use Prim.Native.Nat.{ℕ, zero-le, ◌+◌, ◌-◌, ◌*◌, ◌%◌, ◌≤◌, ◌<◌}
+use mathlib.Core.Path.{◌≡◌, refl, sym, ap, ◌∙◌}
 use mathlib.Core.Bool.{Bool, true, false, cond, ◌&&◌}
 use mathlib.Core.Logic.{⊎_elim}
 use mathlib.Core.List.{List, [], ◌∷◌}
@@ -12,11 +12,11 @@ use lib.Dec.{eqb, leb}
 use Rattle.wire.specs.Numbers.{number}
 use Rattle.wire.proofs.ListLaws.{lt-or-le}
 use Rattle.wire.proofs.SumLaws.{and_left, and_right}
-use Rattle.fingerprint_bodies.specs.Entries.{bind, whole, at_least, all_entries}
-use Rattle.fingerprint_bodies.specs.Forms.{words_in, even_words, word_list, one_entry, one_name, some_names}
+use Rattle.fingerprint_bodies.specs.Entries.{bind, whole, at_least, all_entries, passing}
+use Rattle.fingerprint_bodies.specs.Forms.{words_in, even_words, word_list, one_entry, one_name, some_names, one_share}
 use Rattle.fingerprint_bodies.specs.Code.{within, count_asked, is_whole}
 use Rattle.fingerprint_bodies.proofs.PieceLaws.{number-there, number_cut, whole_is, whole-not}
-use Rattle.fingerprint_bodies.proofs.EntryLaws.{plus, plus_none, plus-some}
+use Rattle.fingerprint_bodies.proofs.EntryLaws.{plus, count-passing}
 use Rattle.varint.proofs.ByteLaws.{number-one}
 
 -- n is the count that stands in front
@@ -136,23 +136,40 @@ module _ {A : Type 0} (m : ℕ) (x : Option (List A)) where
   unfolding within
   within_none e = rw e
 
-  pub within-cut : plus 0 x ≡ none → within m x ≡ 21
-  within-cut e = within_none (plus_none x e)
+-- what is asked of so many entries
+abbrev pub counted : ℕ → ℕ → Option ℕ → ℕ
+counted least m none = 21
+counted least m (some k) = cond (leb least k) (cond (leb k m) 0 23) 21
 
-  pub within_count : (k : ℕ) → plus 0 x ≡ some k → within m x ≡ cond (leb k m) 0 23
-  unfolding within
-  within_count k e = let c = plus-some x k e in rw (c.there, c.long)
+pub within-counted : {A : Type 0} (least m : ℕ) (x : Option (List A)) → within m (bind x (at_least least)) ≡ counted least m (plus 0 x)
+unfolding within bind at_least plus
+within-counted least m none = refl
+within-counted least m (some l) =
+    both (leb least (length l)) ∙ ap (λ (n : ℕ). cond (leb least n) (cond (leb n m) 0 23) 21) (let z : length l ≡ 0 + length l = omega arith in z)
+  where
+    both : (b : Bool) → within m (cond b (some l) none) ≡ cond b (cond (leb (length l) m) 0 23) 21
+    both true = refl
+    both false = refl
 
--- names, of which there must be one
 module _ (l : List ℕ) where
-  pub names-cut : plus 0 (all_entries one_name l) ≡ none → within 16 (some_names l) ≡ 21
-  unfolding some_names bind within
-  names-cut e = rw (plus_none (all_entries one_name l) e)
+  pub names-counted : within 16 (bind (all_entries (passing one_name) l) (at_least 1)) ≡ within 16 (some_names l)
+  unfolding some_names all_entries
+  names-counted =
+      within-counted 1 16 (all_entries (passing one_name) l)
+      ∙ ap (counted 1 16) (count-passing one_name 0 (length l) l)
+      ∙ sym (within-counted 1 16 (all_entries one_name l))
 
-  pub names-none : plus 0 (all_entries one_name l) ≡ some 0 → within 16 (some_names l) ≡ 21
-  unfolding some_names bind within at_least
-  names-none e = let c = plus-some (all_entries one_name l) 0 e in rw (c.there, c.long)
+  any : (n : ℕ) → counted 0 64 (some n) ≡ cond (leb n 64) 0 23
+  any n = rw (le-leb 0 n zero-le)
 
-  pub names-count : (k : ℕ) → 1 ≤ k → plus 0 (all_entries one_name l) ≡ some k → within 16 (some_names l) ≡ cond (leb k 16) 0 23
-  unfolding some_names bind within at_least
-  names-count k h e = let c = plus-some (all_entries one_name l) k e in rw (c.there, c.long, le-leb 1 k h, c.long)
+  any-count : {A : Type 0} (x : Option (List A)) → counted 0 64 (plus 0 x) ≡ within 64 x
+  unfolding within plus
+  any-count none = refl
+  any-count (some l) = ap (λ (n : ℕ). counted 0 64 (some n)) (let z : 0 + length l ≡ length l = omega arith in z) ∙ any (length l)
+
+  pub shares-counted : within 64 (bind (all_entries (passing one_share) l) (at_least 0)) ≡ within 64 (all_entries one_share l)
+  unfolding all_entries
+  shares-counted =
+      within-counted 0 64 (all_entries (passing one_share) l)
+      ∙ ap (counted 0 64) (count-passing one_share 0 (length l) l)
+      ∙ any-count (all_entries one_share l)

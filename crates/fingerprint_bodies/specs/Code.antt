@@ -3,7 +3,7 @@ use Rattle.std.specs.Prelude.{ℕ, ◌+◌, ◌-◌, ◌%◌, ◌≤◌, ◌<◌
 use Rattle.std.specs.Prelude as std
 use Rattle.std.proofs.Math.Option.{Option, none, some}
 use Rattle.wire.specs.Numbers.{number}
-use Rattle.fingerprint_bodies.specs.Entries.{entry, or_empty}
+use Rattle.fingerprint_bodies.specs.Entries.{Entry, entry, or_empty}
 use Rattle.fingerprint_bodies.specs.Body.{Share, Body, Kind}
 use Rattle.fingerprint_bodies.specs.Forms.{one_name, one_share, body_of, ids_new, within_counts}
 use Rattle.fingerprint_bodies.specs.declared.Share as code
@@ -66,3 +66,13 @@ pub record ShareFound (bs : List ℕ) (group used : ℕ) : Type 0 where
 abbrev pub ShareAs : std.Option code.Share → List ℕ → Type 0
 ShareAs (Some s) bs = ShareFound bs s.group s.used
 ShareAs None bs = one_share bs ≡ none
+
+-- an entry of some form: how many bytes it takes
+pub record UsedFound (form : List ℕ → Option (Entry (Unit {0}))) (bs : List ℕ) (used : ℕ) : Type 0 where
+  pub is : form bs ≡ some (entry (tt {0}) (drop used bs))
+  pub some : 1 ≤ used
+  pub within : used ≤ length bs
+
+abbrev pub UsedAs : std.Option ℕ → (List ℕ → Option (Entry (Unit {0}))) → List ℕ → Type 0
+UsedAs (Some n) form bs = UsedFound form bs n
+UsedAs None form bs = form bs ≡ none

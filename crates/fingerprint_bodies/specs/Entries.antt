@@ -63,3 +63,7 @@ entries one (suc f) (b ∷ bs) = bind (one (b ∷ bs)) (λ e. first e.value (ent
 
 unfoldable pub all_entries : {A : Type 0} → (List ℕ → Option (Entry A)) → List ℕ → Option (List A)
 all_entries one bs = entries one (length bs) bs
+
+-- a form without its value: what stands after the entry is all that is told
+unfoldable pub passing : {A : Type 0} → (List ℕ → Option (Entry A)) → List ℕ → Option (Entry (Unit {0}))
+passing one bs = mapped (λ e. entry (tt {0}) e.rest) (one bs)

@@ -3,11 +3,12 @@
 // Document 01, "Reading" and questions 21 and 23.
 #![tactic(auto)]
 
-ghost use Rattle.std.specs.Prelude.{◌≡◌, ◌≤◌};
+ghost use Rattle.std.specs.Prelude.{◌≡◌, ◌≤◌, List, ℕ};
+ghost use Rattle.std.proofs.Math.Option.{Option};
 ghost use Rattle.wire.specs.Refusals.{told_number};
-ghost use Rattle.fingerprint_bodies.specs.Entries.{all_entries};
-ghost use Rattle.fingerprint_bodies.specs.Forms.{word_list, one_entry, server_name, some_names, protocol_names, one_share, key_shares};
-ghost use Rattle.fingerprint_bodies.specs.Code.{is_whole, count_asked, formed, within, NameAs, ShareAs};
+ghost use Rattle.fingerprint_bodies.specs.Entries.{Entry, bind, at_least, all_entries, passing};
+ghost use Rattle.fingerprint_bodies.specs.Forms.{word_list, one_entry, server_name, one_name, protocol_names, one_share, key_shares};
+ghost use Rattle.fingerprint_bodies.specs.Code.{is_whole, count_asked, formed, within, NameAs, ShareAs, UsedAs};
 
 use wire::{Refusal, be16};
 
@@ -109,31 +110,9 @@ pub fn ask_protocols(body: &[u8]) -> Result<(), Refusal>
     ensures { told_number result ≡ within 16 (protocol_names body.now) }
 {
     if is_whole(body, 2) {
-        return ask_names(&body[2..]);
+        return ask_entries::<Name>(&body[2..], 1, 16);
     }
     Err(Refusal::ExtensionMalformed)
-}
-
-// Beside `ask_entries`: the two share a loop of five lines, and part in entry, limit and the test for none.
-fn ask_names(list: &[u8]) -> Result<(), Refusal>
-    ensures { told_number result ≡ within 16 (some_names list.now) }
-{
-    let n = list.len();
-    let mut at = 0;
-    let mut k: usize = 0;
-    // A place and not an item: each step takes as many bytes as the entry has.
-    while at < n {
-        let length = one_name(&list[at..]).ok_or(Refusal::ExtensionMalformed)?;
-        at += 1 + length;
-        k += 1;
-    }
-    if k == 0 {
-        return Err(Refusal::ExtensionMalformed);
-    }
-    if 16 < k {
-        return Err(Refusal::ListTooLong);
-    }
-    Ok(())
 }
 
 // A group, and its key of one byte or more with its count in two bytes.
@@ -162,25 +141,53 @@ pub fn ask_shares(body: &[u8]) -> Result<(), Refusal>
     ensures { told_number result ≡ within 64 (key_shares body.now) }
 {
     if is_whole(body, 2) {
-        return ask_entries(&body[2..]);
+        return ask_entries::<Share>(&body[2..], 0, 64);
     }
     Err(Refusal::ExtensionMalformed)
 }
 
-// Not one function with `ask_names`: they share the loop alone, and part in the entry, the limit and whether there may be none.
-fn ask_entries(list: &[u8]) -> Result<(), Refusal>
-    ensures { told_number result ≡ within 64 (all_entries one_share list.now) }
+// An entry of a list: the bytes that it takes at the front of some, or none where it is not whole.
+trait Listed {
+    ghost form: { List ℕ → Option (Entry (Unit {0})) };
+
+    fn used(rest: &[u8]) -> Option<usize>
+        ensures { UsedAs result form rest.now };
+}
+
+// A name is told by its length alone, and has no struct with fields.
+struct Name;
+
+impl Listed for Name {
+    ghost form = { passing one_name };
+
+    fn used(rest: &[u8]) -> Option<usize> {
+        Some(1 + one_name(rest)?)
+    }
+}
+
+impl Listed for Share {
+    ghost form = { passing one_share };
+
+    fn used(rest: &[u8]) -> Option<usize> {
+        Some(one_share(rest)?.used)
+    }
+}
+
+// Entries to the end, at least and at most so many.
+fn ask_entries<E: Listed>(list: &[u8], least: usize, most: usize) -> Result<(), Refusal>
+    ensures { told_number result ≡ within most (bind (all_entries E.form list.now) (at_least least)) }
 {
-    let n = list.len();
     let mut at = 0;
     let mut k: usize = 0;
     // A place and not an item: each step takes as many bytes as the entry has.
-    while at < n {
-        let share = one_share(&list[at..]).ok_or(Refusal::ExtensionMalformed)?;
-        at += share.used;
+    while at < list.len() {
+        at += E::used(&list[at..]).ok_or(Refusal::ExtensionMalformed)?;
         k += 1;
     }
-    if 64 < k {
+    if k < least {
+        return Err(Refusal::ExtensionMalformed);
+    }
+    if most < k {
         return Err(Refusal::ListTooLong);
     }
     Ok(())
