@@ -10,7 +10,7 @@ ghost use Rattle.alike.specs.Code.{same_counts_of};
 use fingerprint::Fingerprint;
 use profiles::ExtType;
 
-// How often a number stands among the items. A `for`, and no `filter` and `count`: with these Alike took 1.6 times as long.
+// How often a number stands among the items. A `for`: with `filter` and `count` Alike took 1.3 to 1.9 times as long.
 fn times(items: &[u64], x: u64) -> usize
     ensures { result ≡ count x items.now }
 {
