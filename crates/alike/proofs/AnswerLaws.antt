@@ -6,7 +6,6 @@ use mathlib.Core.List.{List, [], ◌∷◌, map}
 use lib.Dec.{eqb}
 use lib.Pointwise.{pointwise}
 use Rattle.alike.specs.Alike.{same_list, same_numbers}
-use Rattle.alike.proofs.SameLaws.{equal-yes, numbers-tests}
 
 -- ---- one test after the other: the code answers by the first that fails, else by the last
 
@@ -56,10 +55,8 @@ module _ {a b p q : List ℕ} (f : p ≡ a) (g : q ≡ b) where
 
   -- r is whether they differ
   module _ {r : Bool} (e : r ≡ not (pointwise eqb p q)) where
-    pub parts_same : r ≡ false → a ≡ b
-    parts_same h = numbers-tests.yes a b (sym parts-as ∙ not-false (pointwise eqb p q) (sym e ∙ h))
+    pub parts_same : r ≡ false → same_numbers a b ≡ true
+    parts_same h = sym parts-as ∙ not-false (pointwise eqb p q) (sym e ∙ h)
 
-    pub parts-differ : r ≡ true → a ≡ b → ⊥
-    parts-differ h d =
-        let no : same_numbers a b ≡ false = sym parts-as ∙ not-true (pointwise eqb p q) (sym e ∙ h) in
-        false≢true (sym no ∙ equal-yes numbers-tests a b d)
+    pub parts-differ : r ≡ true → same_numbers a b ≡ false
+    parts-differ h = sym parts-as ∙ not-true (pointwise eqb p q) (sym e ∙ h)

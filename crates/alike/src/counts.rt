@@ -3,7 +3,6 @@ ghost use Rattle.std.specs.Prelude.{◌≡◌, ℕ, ◌≤◌, map, length};
 ghost use Rattle.wire.specs.Sums.{count, equally_often, same_counts};
 ghost use Rattle.fingerprint_lists.specs.Arrays.{padded};
 ghost use Rattle.fingerprint.specs.Code.{type_number};
-ghost use Rattle.fingerprint.specs.InRange.{Counts};
 ghost use Rattle.alike.specs.Alike.{alike_id};
 ghost use Rattle.alike.specs.Code.{same_counts_of};
 
@@ -27,12 +26,7 @@ fn times(items: &[u64], x: u64) -> usize
 fn equally_often(a: &[u64], b: &[u64], items: &[u64]) -> bool
     ensures { result ≡ equally_often a.now b.now items.now }
 {
-    for &x in items {
-        if times(a, x) != times(b, x) {
-            return false;
-        }
-    }
-    true
+    items.iter().all(|&x| times(a, x) == times(b, x))
 }
 
 // Each number stands as often in a as in b. Where the two have the same length, it is enough to ask it of the numbers of a.
@@ -71,7 +65,8 @@ impl Counted for u64 {
     }
 }
 
-// The numbers that the items count as, and zeros after them.
+// The numbers that the items count as, and zeros after them. By their places: under `iter_mut().zip(..)` no invariant of the loop can name
+// what was written.
 fn numbers<T: Counted>(items: &[T]) -> [u64; 64]
     requires { length items.now ≤ 64 }
     ensures { result ≡ padded 64 0 (map T.counts_as items.now) }
@@ -93,14 +88,7 @@ fn same_in_any_order<T: Counted>(x: &[T], y: &[T]) -> bool
 
 // Types and ids.
 pub fn same_but_for_order(x: &Fingerprint, y: &Fingerprint) -> bool
-    requires { Counts x.now × Counts y.now }
     ensures { result ≡ same_counts_of x.now y.now }
 {
-    same_in_any_order(
-        &x.extensions[..x.extension_count],
-        &y.extensions[..y.extension_count],
-    ) && same_in_any_order(
-        &x.transport_param_ids[..x.id_count],
-        &y.transport_param_ids[..y.id_count],
-    )
+    same_in_any_order(x.extensions(), y.extensions()) && same_in_any_order(x.ids(), y.ids())
 }

@@ -25,6 +25,6 @@ pub fn alike(a: &[u8], b: &[u8]) -> bool
     x.legacy_session_id_len == y.legacy_session_id_len
         && names::same_name(a, x.sni, b, y.sni)
         && lists::same_lists(&x, &y)
-        && names::same_protocols(a, x.alpn, x.alpn_count, b, y.alpn, y.alpn_count)
+        && names::same_protocols(a, x.protocols(), b, y.protocols())
         && counts::same_but_for_order(&x, &y)
 }

@@ -1,6 +1,6 @@
 // Names of two hellos, compared by their bytes, wherever they stand.
-ghost use Rattle.std.specs.Prelude.{◌≡◌, take};
-ghost use Rattle.fingerprint.specs.InRange.{Filled, SniInside, SpansInside};
+ghost use Rattle.std.specs.Prelude.{◌≡◌, length};
+ghost use Rattle.fingerprint.specs.InRange.{SniInside, SpansInside};
 ghost use Rattle.alike.specs.Alike.{same_numbers, same_list, same_name};
 ghost use Rattle.alike.specs.Code.{name_of, names_of};
 
@@ -19,16 +19,16 @@ pub fn same_name(a: &[u8], x: Option<Span>, b: &[u8], y: Option<Span>) -> bool
     }
 }
 
-// The first `n` protocol names of a are the first `m` of b.
-pub fn same_protocols(a: &[u8], x: [Span; 16], n: usize, b: &[u8], y: [Span; 16], m: usize) -> bool
-    requires { Filled 16 x n × SpansInside a.now x n × Filled 16 y m × SpansInside b.now y m }
-    ensures { result ≡ same_list same_numbers (names_of a.now (take n x)) (names_of b.now (take m y)) }
+// The protocol names of a are those of b.
+pub fn same_protocols(a: &[u8], x: &[Span], b: &[u8], y: &[Span]) -> bool
+    requires { SpansInside a.now x.now (length x.now) × SpansInside b.now y.now (length y.now) }
+    ensures { result ≡ same_list same_numbers (names_of a.now x.now) (names_of b.now y.now) }
 {
-    if n != m {
+    if x.len() != y.len() {
         return false;
     }
-    for i in 0..n {
-        if part(a, x[i]) != part(b, y[i]) {
+    for (&s, &t) in x.iter().zip(y) {
+        if part(a, s) != part(b, t) {
             return false;
         }
     }

@@ -9,16 +9,15 @@ ghost use Rattle.frames.specs.Join.{join, placed_of, join_of, out_after, marks_a
 ghost use Rattle.frames.specs.Cut.{frames_of, cut_of, after_cut};
 ghost use Rattle.records.specs.Records.{record_at, record_of};
 ghost use Rattle.wire.specs.Refusals.{question};
-ghost use Rattle.std.specs.Prelude.{◌≡◌, ◌++◌, length};
+ghost use Rattle.std.specs.Prelude.{◌≡◌, [], ◌∷◌, ◌++◌, length, replicate};
+ghost use Rattle.script_writing.specs.Decimal.{decimal_text};
+ghost use Rattle.script_writing.specs.Answers.{WrittenAll};
 ghost use Rattle.answers.specs.Said.{number, said_count, plainly, handing, Says, Hands};
 ghost use Rattle.answers.specs.Faults.{fault_of};
 ghost use Rattle.answers.specs.Answers.{refused_parts, buffer_parts, size_parts, write_parts, read_parts, make_parts, join_parts, frames_parts, split_parts, splitting};
 
 use script::reading::NoPiece;
-use script_writing::texts::{
-    put_bytes_and_number, put_number, put_number_and_bytes, put_number_and_two, put_text,
-    put_two_numbers, put_two_numbers_and_bytes,
-};
+use script_writing::texts::{Part, put_all, put_number, put_text};
 use std::fmt;
 use wire::Refusal;
 
@@ -79,8 +78,15 @@ impl Said {
     }
 }
 
+// A buffer of zeros. As a call of its own an array costs the proofs of its users nothing, where the array itself would.
+pub fn room<const N: usize>() -> [u8; N]
+    ensures { result ≡ replicate N 0 }
+{
+    [0u8; N]
+}
+
 // The answer to a call that is refused and has no buffer.
-fn refuse(refusal: Refusal, out: &mut [u8]) -> Said
+pub fn refuse(refusal: Refusal, out: &mut [u8]) -> Said
     ensures { Says (number (question refusal)) (refused_parts (question refusal)) result out.old out.new }
 {
     Said::Refused(put_number(out, b"refused ", refusal.number()), refusal)
@@ -90,8 +96,13 @@ fn refuse(refusal: Refusal, out: &mut [u8]) -> Said
 fn refuse_with(refusal: Refusal, buffer: &[u8], out: &mut [u8]) -> Said
     ensures { Says (number (question refusal)) (refused_parts (question refusal) ++ buffer_parts buffer.now) result out.old out.new }
 {
-    let n = put_number_and_bytes(out, b"refused ", refusal.number(), buffer);
-    Said::Refused(n, refusal)
+    let parts = [
+        Part::Text(b"refused "),
+        Part::Number(refusal.number()),
+        Part::Text(b" "),
+        Part::Bytes(buffer),
+    ];
+    Said::Refused(put_all(out, &parts), refusal)
 }
 
 // size VALUE
@@ -109,7 +120,15 @@ pub fn say_write(value: u64, buffer: &mut [u8], out: &mut [u8]) -> Said
     ensures { Says (plainly (write_of value (length buffer.old))) (write_parts (write_of value (length buffer.old)) (after_write value buffer.old)) result out.old out.new }
 {
     match varint::write(value, buffer) {
-        Ok(width) => { Said::Answer(put_number_and_bytes(out, b"width ", width as u64, buffer)) }
+        Ok(width) => {
+            let parts = [
+                Part::Text(b"width "),
+                Part::Number(width as u64),
+                Part::Text(b" "),
+                Part::Bytes(buffer),
+            ];
+            Said::Answer(put_all(out, &parts))
+        }
         Err(refusal) => refuse_with(refusal, buffer, out),
     }
 }
@@ -119,12 +138,21 @@ pub fn say_read(input: &[u8], out: &mut [u8]) -> Said
     ensures { Says (plainly (read_of input.now)) (read_parts (read_of input.now)) result out.old out.new }
 {
     match varint::read(input) {
-        Ok(x) => Said::Answer(put_two_numbers(out, b"value ", x.value, b" width ", x.width as u64)),
+        Ok(x) => {
+            let parts = [
+                Part::Text(b"value "),
+                Part::Number(x.value),
+                Part::Text(b" width "),
+                Part::Number(x.width as u64),
+            ];
+            Said::Answer(put_all(out, &parts))
+        }
         Err(refusal) => refuse(refusal, out),
     }
 }
 
 // make PROFILE NAME SCID TAPE OUT
+// Here and below OUT, what is handed back and the answer's text go one by one: each contract speaks of each.
 pub fn say_make(
     profile: u64,
     name: &[u8],
@@ -138,19 +166,41 @@ pub fn say_make(
 {
     match tls::making::generate_client_hello(profile, name, scid, tape, buffer) {
         Ok(hello) => {
-            let n = put_two_numbers_and_bytes(
-                out,
-                b"length ",
-                hello.length as u64,
-                b" drawn ",
-                hello.drawn as u64,
-                buffer,
-            );
+            let parts = [
+                Part::Text(b"length "),
+                Part::Number(hello.length as u64),
+                Part::Text(b" drawn "),
+                Part::Number(hello.drawn as u64),
+                Part::Text(b" "),
+                Part::Bytes(buffer),
+            ];
+            let n = put_all(out, &parts);
             let end = hello.length;
             Said::Handed(n, put_text(last, &buffer[0..end]))
         }
         Err(refusal) => refuse_with(refusal, buffer, out),
     }
+}
+
+// Writes words and a number, and both buffers of the joiner.
+fn put_buffers<'a>(
+    out: &mut [u8],
+    words: &'a [u8],
+    number: u64,
+    buffer: &'a [u8],
+    marks: &'a [u8],
+) -> usize
+    ensures { WrittenAll ((words.now ∷ decimal_text number ∷ []) ++ (buffer_parts buffer.now ++ buffer_parts marks.now)) result out.old out.new }
+{
+    let parts = [
+        Part::Text(words),
+        Part::Number(number),
+        Part::Text(b" "),
+        Part::Bytes(buffer),
+        Part::Text(b" "),
+        Part::Bytes(marks),
+    ];
+    put_all(out, &parts)
 }
 
 // join FRAMES OUT MARKS
@@ -165,11 +215,11 @@ pub fn say_join(
 {
     match frames::joining::reassemble_crypto(frames, buffer, marks) {
         Ok(end) => {
-            let n = put_number_and_two(out, b"end ", end as u64, buffer, marks);
+            let n = put_buffers(out, b"end ", end as u64, buffer, marks);
             Said::Handed(n, put_text(last, &buffer[0..end]))
         }
         Err(refusal) => {
-            let n = put_number_and_two(out, b"refused ", refusal.number(), buffer, marks);
+            let n = put_buffers(out, b"refused ", refusal.number(), buffer, marks);
             Said::Refused(n, refusal)
         }
     }
@@ -181,7 +231,13 @@ pub fn say_frames(c: u64, hello: &[u8], buffer: &mut [u8], last: &mut [u8], out:
 {
     match frames::cutting::write_frames(c, hello, buffer) {
         Ok(length) => {
-            let n = put_number_and_bytes(out, b"length ", length as u64, buffer);
+            let parts = [
+                Part::Text(b"length "),
+                Part::Number(length as u64),
+                Part::Text(b" "),
+                Part::Bytes(buffer),
+            ];
+            let n = put_all(out, &parts);
             Said::Handed(n, put_text(last, &buffer[0..length]))
         }
         Err(refusal) => refuse_with(refusal, buffer, out),
@@ -196,7 +252,13 @@ pub fn say_split(place: u64, blob: &[u8], last: &mut [u8], out: &mut [u8]) -> Sa
     match records::next_record(blob, at) {
         Ok(Some(after)) => {
             let part = records::split_records(blob, at);
-            let n = put_bytes_and_number(out, b"record ", part, b" next ", after as u64);
+            let parts = [
+                Part::Text(b"record "),
+                Part::Bytes(part),
+                Part::Text(b" next "),
+                Part::Number(after as u64),
+            ];
+            let n = put_all(out, &parts);
             Said::Handed(n, put_text(last, part))
         }
         Ok(None) => Said::Answer(put_text(out, b"end")),

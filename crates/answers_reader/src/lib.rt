@@ -10,12 +10,12 @@ ghost use Rattle.answers.specs.Said.{plain, hands, plainly, Says, Hands};
 ghost use Rattle.answers_reader.specs.Answers.{report_answer, alike_parts};
 ghost use Rattle.answers_reader.specs.Listings.{ShowsHello, ShowsFrames};
 
-use answers::Said;
+use answers::{Said, refuse, room};
 use fingerprint::reading::{extension_set, name_or, parse_clienthello};
 use fingerprint_stops::stopped_at;
 use frames::joining::{LIMIT, joiner_stopped_at};
 use reports::{put_name_answer, put_report, put_set};
-use script_writing::texts::{put_number, put_text};
+use script_writing::texts::put_text;
 use show_frames::put_frame_listing;
 use show_hello::put_listing;
 
@@ -25,7 +25,7 @@ pub fn say_report(hello: &[u8], out: &mut [u8]) -> Said
 {
     match parse_clienthello(hello) {
         Ok(report) => Said::Answer(put_report(out, hello, report)),
-        Err(refusal) => { Said::Refused(put_number(out, b"refused ", refusal.number()), refusal) }
+        Err(refusal) => refuse(refusal, out),
     }
 }
 
@@ -64,17 +64,13 @@ pub fn say_show(hello: &[u8], out: &mut [u8]) -> Said
     Said::Answer(put_listing(out, hello, stopped_at(hello)))
 }
 
-// The joiner's buffers, as short as it takes. As a call of its own an array costs the proof of its user nothing.
-fn joiner_room() -> [u8; LIMIT] {
-    [0u8; LIMIT]
-}
-
 // show-frames FRAMES
 pub fn say_show_frames(frames: &[u8], out: &mut [u8]) -> Said
     ensures { ShowsFrames frames.now result out.old out.new }
 {
-    let mut buffer = joiner_room();
-    let mut marks = joiner_room();
+    // as short as the joiner takes them
+    let mut buffer = room::<LIMIT>();
+    let mut marks = room::<LIMIT>();
     let stop = joiner_stopped_at(frames, &mut buffer, &mut marks);
     Said::Answer(put_frame_listing(out, frames, stop))
 }

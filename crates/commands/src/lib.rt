@@ -5,9 +5,9 @@
 ghost use Rattle.std.specs.Prelude.{length, IfOk};
 ghost use Rattle.commands.specs.Bounds.{Fits};
 
-use answers::{Fault, Said};
+use answers::{Fault, Said, room};
 use operands::kinds::Command;
-use operands::{inputs_room, read_buffer, read_inputs, read_value, room};
+use operands::{Call, INPUTS, Inputs, OPERAND};
 use script::words::{has_operands, word_at};
 use std::rt::Files;
 
@@ -27,21 +27,14 @@ pub fn command(
     if !has_operands(line, command.operands()) {
         return Err(Fault::Count);
     }
-    let value = read_value(line, command)?;
-    let mut bytes = inputs_room();
-    let ends = read_inputs(rt, line, command, kept, &mut bytes)?;
-    let mut buffer = room();
-    let n = read_buffer(rt, line, command, 0, kept, &mut buffer)?;
-    let mut marks = room();
-    let m = read_buffer(rt, line, command, 1, kept, &mut marks)?;
-    let bytes: &[u8] = &bytes;
-    let inputs = [
-        &bytes[..ends.first],
-        &bytes[ends.first..ends.second],
-        &bytes[ends.second..ends.third],
-    ];
-    let buffer = &mut buffer[..n];
-    let marks = &mut marks[..m];
+    let call = Call { line, command };
+    let value = call.read_value()?;
+    let mut bytes = room::<INPUTS>();
+    let inputs = call.read_inputs(rt, kept, &mut bytes)?;
+    let mut buffer = room::<OPERAND>();
+    let buffer = call.read_buffer(rt, 0, kept, &mut buffer)?;
+    let mut marks = room::<OPERAND>();
+    let marks = call.read_buffer(rt, 1, kept, &mut marks)?;
     Ok(answer(command, value, inputs, buffer, marks, last, out))
 }
 
@@ -49,7 +42,7 @@ pub fn command(
 fn answer(
     command: Command,
     value: u64,
-    inputs: [&[u8]; 3],
+    inputs: Inputs,
     buffer: &mut [u8],
     marks: &mut [u8],
     last: &mut [u8],
@@ -57,7 +50,11 @@ fn answer(
 ) -> Said
     ensures { Fits (length last.old) (length out.old) result }
 {
-    let [first, second, third] = inputs;
+    let Inputs {
+        first,
+        second,
+        third,
+    } = inputs;
     match command {
         Command::Size => answers::say_size(value, out),
         Command::Write => answers::say_write(value, buffer, out),

@@ -1,5 +1,5 @@
 -- What compare/ asks of the varints, as single 64-bit numbers.
-use Rattle.std.specs.Prelude.{◌≡◌, ℕ, zero, suc, ◌+◌, ◌%◌, ◌^◌, List, length, drop}
+use Rattle.std.specs.Prelude.{◌≡◌, ℕ, zero, suc, ◌+◌, ◌%◌, ◌^◌, ◌≤◌, List, length, drop, Option, MatchOption}
 use Rattle.wire.specs.Answer.{Answer, result, refused, coded}
 use Rattle.varint.specs.Varint.{write_of, after_write, read_of}
 use Rattle.varint.specs.declared.Varint.{Varint}
@@ -25,6 +25,12 @@ sum_from (suc fuel) s sum = on_read (λ w t. sum_from fuel (drop w s) t) sum (re
 
 unfoldable pub sum_of : List ℕ → ℕ
 sum_of s = sum_from (length s) s 0
+
+-- what a turn of the reads gives, and the bytes that are left after it
+abbrev pub Reads : List ℕ → Option ℕ → List ℕ → Type 0
+Reads s value t =
+    MatchOption value ((n : ℕ) × (read_of s ≡ refused n))
+    (λ v. (x : Varint) × (read_of s ≡ result x) × (1 ≤ x.width) × (x.width ≤ length s) × (v ≡ x.value) × (t ≡ drop x.width s))
 
 -- what a write gives and leaves
 pub record PutCoded (v : ℕ) (old : List ℕ) (r : ℕ) (new : List ℕ) : Type 0 where

@@ -2,7 +2,8 @@
 // compare_calls_c exports them.
 #![tactic(auto)]
 
-ghost use Rattle.std.specs.Prelude.{◌≡◌, ◌<◌};
+ghost use Rattle.std.specs.Prelude.{◌≡◌, ◌<◌, length};
+ghost use Rattle.std.specs.Iterator.{at_most};
 ghost use Rattle.wire.specs.Answer.{coded};
 ghost use Rattle.varint.specs.Varint.{size_of, read_of};
 ghost use Rattle.records.specs.Records.{record_at};
@@ -11,7 +12,7 @@ ghost use Rattle.fingerprint.specs.Calls.{extension_set};
 ghost use Rattle.fingerprint.specs.Report.{parsed_of};
 ghost use Rattle.fingerprint_stops.specs.Stops.{stopped_at};
 ghost use Rattle.reports.specs.Lines.{set_text};
-ghost use Rattle.compare_calls.specs.Sums.{coded_value, coded_width, sum_of, PutCoded};
+ghost use Rattle.compare_calls.specs.Sums.{coded_value, coded_width, sum_of, PutCoded, Reads};
 ghost use Rattle.crustdelta_c.specs.Calls.{MakeCoded};
 ghost use Rattle.compare_calls.specs.Calls.{drawn_of, coded_next, PartCoded};
 ghost use Rattle.compare_calls.specs.Reading.{coded_stop, sum_at, picked_of, ReportCoded, TextCoded};
@@ -50,19 +51,31 @@ pub fn compare_varint_width(input: &[u8]) -> u64
     coded(varint::read(input).map(|x| x.width))
 }
 
-// The sum of the values read one after another, up to the end or the first refusal, modulo 2^64: a run of reads to be timed.
+// The values of the varints that stand one after another, up to the end or the first refusal.
+#[derive(Drop)]
+struct Varints<'a>(&'a [u8]);
+
+impl<'a> Iterator for Varints<'a> {
+    type Item = u64;
+
+    ghost next_gives = { λ s value t. Reads s.0.now value t.0.now };
+
+    ghost remaining = { λ s. at_most (length s.0.now) };
+
+    fn next(&mut self) -> Option<u64> {
+        let x = varint::read(self.0).ok()?;
+        self.0 = &self.0[x.width..];
+        Some(x.value)
+    }
+}
+
+// The sum of the values, modulo 2^64: a run of reads to be timed.
 pub fn compare_varint_sum(input: &[u8]) -> u64
     ensures { result ≡ sum_of input.now }
 {
-    let mut at: usize = 0;
     let mut sum: u64 = 0;
-    // A place and not an item: each step takes as many bytes as the varint has.
-    while at < input.len() {
-        let Ok(x) = varint::read(&input[at..]) else {
-            return sum;
-        };
-        sum = sum.wrapping_add(x.value);
-        at += x.width;
+    for value in Varints(input) {
+        sum = sum.wrapping_add(value);
     }
     sum
 }
@@ -102,9 +115,8 @@ pub fn compare_report(hello: &[u8], out: &mut [u8]) -> u64
     ensures { ReportCoded (read hello.now) out.old result out.new }
 {
     match answers_reader::say_report(hello, out) {
-        Said::Answer(n) => n as u64,
-        Said::Handed(n, _) => n as u64,
         Said::Refused(_, refusal) => coded(Err(refusal)),
+        said => said.text() as u64,
     }
 }
 
@@ -112,11 +124,7 @@ pub fn compare_report(hello: &[u8], out: &mut [u8]) -> u64
 pub fn compare_set(hello: &[u8], out: &mut [u8]) -> u64
     ensures { TextCoded (set_text (extension_set (read hello.now))) out.old result out.new }
 {
-    match answers_reader::say_set(hello, out) {
-        Said::Answer(n) => n as u64,
-        Said::Handed(n, _) => n as u64,
-        Said::Refused(n, _) => n as u64,
-    }
+    answers_reader::say_set(hello, out).text() as u64
 }
 
 // Where the reader stops: 2^32 times the number, plus the place; 0 where the hello is accepted.
@@ -129,8 +137,8 @@ pub fn compare_stopped(hello: &[u8]) -> u64
     }
 }
 
-// One place of each list of the report, added up modulo 2^64, or the number: the whole report is built, and no list can be left out. To be
-// timed.
+// One place of each list of the report, added up modulo 2^64, or the number; 0 for a place past the shortest list. The whole report is built,
+// and no list can be left out. To be timed.
 pub fn compare_picked(hello: &[u8], place: usize) -> u64
     ensures { result ≡ picked_of (parsed_of (read hello.now)) place }
 {

@@ -4,6 +4,7 @@
 
 ghost use Rattle.std.specs.Prelude.{◌≤◌, length};
 
+use answers::room;
 use runner::failures::fail;
 use script_writing::texts::put_text;
 use std::env::FillError;
@@ -15,23 +16,16 @@ const PATH: usize = 4096;
 
 const LINE: usize = 65536;
 
-// The system's numbers of two errors.
+// The system's numbers of two errors: standard error says what the system says of these, and `ErrorKind` has other texts.
 const EINVAL: i32 = 22;
 
 const ENAMETOOLONG: i32 = 36;
 
-fn line_room() -> [u8; LINE] {
-    [0u8; LINE]
-}
-
 // How many arguments there are, the program's name among them.
 fn arg_count(rt: &impl Env) -> usize {
-    for i in 0..usize::MAX {
-        if matches!(rt.arg(i, &mut []), Err(FillError::NotPresent)) {
-            return i;
-        }
-    }
-    usize::MAX
+    (0..usize::MAX)
+        .find(|i| matches!(rt.arg(*i, &mut []), Err(FillError::NotPresent)))
+        .unwrap_or(usize::MAX)
 }
 
 // The error for an argument that is missing or too long.
@@ -42,7 +36,8 @@ fn error_of(e: FillError) -> io::Error {
     }
 }
 
-// Opens the script that the first argument names. Where it cannot, standard error says what is wrong. A path is UTF-8 text.
+// Opens the script that the first argument names. Where it cannot, standard error says what is wrong: here, where it is known what it was,
+// so that there is none and no error goes on. A path is UTF-8 text.
 fn open_script<R: Files + Env + Eprint>(rt: &R) -> Option<R::File> {
     let mut path = [0u8; PATH];
     let n = match rt.arg(1, &mut path) {
@@ -93,6 +88,7 @@ fn put_line(rt: &(impl Env + Eprint), out: &mut [u8]) -> usize
 {
     let count = arg_count(rt);
     let mut n = put_argument(rt, 1, out);
+    // By number: the system is asked for an argument by its number.
     for i in 2..count {
         n += put_operand(rt, i, &mut out[n..]);
     }
@@ -107,7 +103,7 @@ fn answer_arguments(rt: &(impl Files + Env + Print + Eprint), line: &mut [u8]) -
 fn main(rt: HostRuntime) -> io::Result<()> {
     let count = arg_count(&rt);
     if 2 < count {
-        let mut line = line_room();
+        let mut line = room::<LINE>();
         return answer_arguments(&rt, &mut line);
     }
     if count < 2 {

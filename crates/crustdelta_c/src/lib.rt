@@ -2,7 +2,7 @@
 // or 2^32 plus the number of the refusal. A number is taken as it is passed, 64 bits wide.
 #![tactic(auto)]
 
-ghost use Rattle.std.specs.Prelude.{◌≡◌, ◌≤◌, cond};
+ghost use Rattle.std.specs.Prelude.{◌≡◌, ◌+◌, ◌^◌, ◌≤◌, cond};
 ghost use Rattle.wire.specs.Answer.{coded};
 ghost use Rattle.wire.specs.Refusals.{answer_of};
 ghost use Rattle.fingerprint.specs.Reader.{read};
@@ -16,13 +16,21 @@ use fingerprint::walk::survey_block;
 use fingerprint_layout::put_report;
 use wire::Refusal;
 
+// The number of a refusal, as an answer.
+fn refused(number: u64) -> u64
+    requires { number ≤ 100 }
+    ensures { result ≡ 2 ^ 32 + number }
+{
+    4294967296 + number
+}
+
 // An answer as one number.
 pub fn coded(answer: Result<usize, Refusal>) -> u64
     ensures { result ≡ coded (answer_of answer) }
 {
     match answer {
         Ok(n) => n as u64,
-        Err(refusal) => 4294967296 + refusal.number(),
+        Err(refusal) => refused(refusal.number()),
     }
 }
 
@@ -55,7 +63,8 @@ pub enum NoReport {
 }
 
 impl NoReport {
-    // The number of the refusal; 100, which no question of document 01 has, where the report does not fit.
+    // The number of the refusal; 100, which no question of document 01 has, where the report does not fit. A method, as a Refusal's
+    // number is one: `u64::from` would not say which number it is.
     fn number(self) -> u64
         ensures { (result ≡ reason_number self) × (result ≤ 100) }
     {
@@ -95,7 +104,7 @@ pub fn crustdelta_report(hello: &[u8], out: &mut [u8]) -> u64
 {
     match write_report(hello, out) {
         Ok(length) => length as u64,
-        Err(reason) => 4294967296 + reason.number(),
+        Err(reason) => refused(reason.number()),
     }
 }
 

@@ -11,7 +11,8 @@ use fingerprint::walk::read_header;
 use profiles::ExtType;
 use wire::Refusal;
 
-// An extension, by its type and the ends of its body, where the next one begins too.
+// An extension, by its type and the ends of its body, where the next one begins too. The reader's `Header` is the same with the type as the
+// number that it looks up and marks; one struct for both would have the reader take the number out at each use.
 #[derive(Clone, Copy, PartialEq, Eq, Debug)]
 pub struct Extension {
     pub ext_type: ExtType,
@@ -19,7 +20,7 @@ pub struct Extension {
     pub end: usize,
 }
 
-// A hello and a place in it.
+// A hello and a place in it. No Iterator: a step leaves the walk where it is, so that whoever is refused there can go on elsewhere.
 #[derive(Clone, Copy)]
 pub struct ExtensionWalk<'a> {
     pub hello: &'a [u8],
@@ -70,7 +71,8 @@ pub fn step_at(hello: &[u8], at: usize) -> Result<Option<Extension>, Refusal>
     }))
 }
 
-// The place of the first extension, where the fields before it pass questions 16 to 19; else the hello's end.
+// The place of the first extension, where the fields before it pass questions 16 to 19; else the hello's end, where no extension is. No
+// Result: which of them is refused the reader says.
 pub fn first_extension(hello: &[u8]) -> usize
     ensures { result ≡ first_extension hello.now }
 {

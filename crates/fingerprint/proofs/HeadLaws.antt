@@ -20,7 +20,7 @@ use Rattle.fingerprint.specs.Reader.{Fields, in_form, after_suites, after_sessio
 -- ---- The first four bytes
 
 -- three bytes, as the code reads them
-pub number-three : (h : List ℕ) → 4 ≤ length h → number 256 (take 3 (drop 1 h)) ≡ get_or h 1 0 * 65536 + number 256 (take 2 (drop 2 h))
+pub number-three : (h : List ℕ) → 4 ≤ length h → number 256 (take 3 (drop 1 h)) ≡ get_or h 1 0 * 65536 + get_or h 2 0 * 256 + get_or h 3 0
 unfolding number number_on
 number-three [] h = absurd (omega arith)
 number-three (a ∷ []) h = absurd (omega arith)

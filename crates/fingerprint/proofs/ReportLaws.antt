@@ -21,11 +21,8 @@ use Rattle.fingerprint_bodies.specs.Body.{Kind, name, groups, algorithms, protoc
 use Rattle.fingerprint_bodies.specs.Forms.{words_in, word_list, protocol_names, key_shares, group_of}
 use Rattle.fingerprint_bodies.specs.Code.{asked, Good}
 use Rattle.fingerprint_bodies.proofs.AskLaws.{asked-groups, asked-algorithms, asked-protocols, asked-versions, asked-shares}
-use Rattle.fingerprint_lists.specs.Arrays.{ext_type, span, padded, placed, words_of, groups_of, spans_of, types_of}
+use Rattle.fingerprint_lists.specs.Arrays.{Words, Groups, Spans, ext_type, span, padded, placed, words_of, groups_of, spans_of, types_of}
 use Rattle.fingerprint_lists.specs.declared.Span.{Span}
-use Rattle.fingerprint_lists.specs.declared.Words.{Words}
-use Rattle.fingerprint_lists.specs.declared.Groups.{Groups}
-use Rattle.fingerprint_lists.specs.declared.Spans.{Spans}
 use Rattle.fingerprint.specs.ClientHello.{Extension, ClientHello, type_of}
 use Rattle.fingerprint.specs.Reader.{with_extensions, all_extensions, read}
 use Rattle.fingerprint.specs.Report.{report, block_place, gathered, names_in, first_of, sni_of, empty_report, shown, parsed_of, told_report, number_of}

@@ -7,12 +7,13 @@ use mathlib.Core.Option.{Option, none, some}
 use native.Mathlib.Nat.{not-suc-le-zero, le_of_suc-le-suc}
 use native.Mathlib.Omega.{arith}
 use lib.ListN.{length, take, get_or, replicate, length-append, length-map, length-replicate, get_or-append}
-use lib.Seq.{take_at}
+use lib.Seq.{take_at, get_or-take, length-take-le}
 use Rattle.wire.specs.Answer.{Answer, result, refused}
 use Rattle.wire.specs.Numbers.{Bytes}
 use Rattle.wire.proofs.AnswerLaws.{apart, same-result}
 use Rattle.fingerprint_bodies.specs.Conditions.{All}
 use Rattle.fingerprint_lists.specs.Arrays.{ext_type, group, span, padded, Part, span_of}
+use Rattle.fingerprint_lists.specs.declared.Span.{Span}
 use Rattle.fingerprint.specs.ClientHello.{ClientHello, encode, WellFormed}
 use Rattle.fingerprint.specs.Reader.{read}
 use Rattle.fingerprint.specs.Report.{Report, report, sni_of, shown, Lies, parsed_of}
@@ -138,3 +139,12 @@ module _ (h : List ℕ) where
 
   pub refusal_is : (n : ℕ) → refused n ≡ parsed_of (read h) → read h ≡ refused n
   refusal_is n e = refused-by n (read h) e
+
+-- the protocols without what stands past their count lie inside the hello
+pub protocols-lie : {h : List ℕ} {f : Fingerprint} → Sane h f → {l : List Span} → l ≡ take f.alpn_count f.alpn → SpansInside h l (length l)
+protocols-lie {h} {f} s e =
+    rw e (λ i j.
+    let filled = s.counts.protocols in
+    let few : f.alpn_count ≤ length f.alpn = omega (arith, filled.long, filled.few) in
+    let below : i < f.alpn_count = omega (arith, j, length-take-le f.alpn_count f.alpn few) in
+    rw (get_or-take f.alpn_count f.alpn i (span 0 0) below) (s.protocols-inside i below))

@@ -67,6 +67,10 @@ module _ (h : List ℕ) (at : ℕ) where
           inside = omega arith;
         }
 
+-- the place is four bytes before the body
+pub own-place : {h : List ℕ} {at t start end : ℕ} → HeaderFound h at t start end → start - 4 ≡ at
+own-place f = omega (arith, f.after-header)
+
 -- ---- the questions of a body, with room for one more extension or none
 
 module _ (t : ℕ) where

@@ -159,6 +159,11 @@ abbrev pub HeaderAs : std.Option Header → List ℕ → ℕ → Type 0
 HeaderAs (Some e) h at = HeaderFound h at e.ext_type e.start e.end
 HeaderAs None h at = one_extension (drop at h) ≡ none
 
+-- the header at a place and the place after it, or none and the same place
+abbrev pub GivesHeader : List ℕ → ℕ → std.Option Header → ℕ → Type 0
+GivesHeader h at (Some e) to = HeaderFound h at e.ext_type e.start e.end × (to ≡ e.end)
+GivesHeader h at None to = (one_extension (drop at h) ≡ none) × (to ≡ at)
+
 -- the parameter ids that a body of a kind holds
 abbrev pub ids_held : Kind → List ℕ → List ℕ
 ids_held name bs = []
@@ -194,10 +199,10 @@ pub record StepFound (h : List ℕ) (at t : ℕ) (k : Kind) (start end : ℕ) (k
   pub forward : start ≤ end
   pub inside : end ≤ length h
 
-abbrev pub StepAs : Result Step Refusal → List ℕ → ℕ → List ℕ → List ℕ → List ℕ → Type 0
-StepAs (Ok s) h at known old new =
-    StepFound h at s.ext_type (meant s.kind) s.start s.end known × Gained (kind s.ext_type) (take (s.end - s.start) (drop s.start h)) s.ids old new
-StepAs (Err e) h at known old new = (done : List Extension) → map type_of done ≡ known → extension done (drop at h) ≡ refused (question e)
+abbrev pub StepAs : Result Step Refusal → List ℕ → Header → List ℕ → List ℕ → List ℕ → Type 0
+StepAs (Ok s) h e known old new =
+    StepFound h (e.start - 4) e.ext_type (meant s.kind) e.start e.end known × Gained (kind e.ext_type) (take (e.end - e.start) (drop e.start h)) s.ids old new
+StepAs (Err r) h e known old new = (done : List Extension) → map type_of done ≡ known → extension done (drop (e.start - 4) h) ≡ refused (question r)
 
 -- a note lies inside the hello; the body there was found good, or the extension is not there and the note is empty
 pub record Noted (h : List ℕ) (block : ℕ) (es : List Extension) (k : Kind) (s : Span) : Type 0 where

@@ -41,8 +41,7 @@ pub fn read_fields(hello: &[u8]) -> Result<Head, Refusal>
     if n < 4 {
         return Err(Refusal::WrongLength);
     }
-    // three bytes, which no method of the library reads
-    let length = usize::from(hello[1]) * 65536 + usize::from(be16(&hello[2..]));
+    let length = u32::from_be_bytes([0, hello[1], hello[2], hello[3]]) as usize;
     if length != n - 4 {
         return Err(Refusal::WrongLength);
     }
@@ -97,7 +96,8 @@ fn after_session(hello: &[u8], session: usize) -> Option<Head>
     })
 }
 
-// Compression of one byte or more, and the block's length: the place of the first extension.
+// Compression of one byte or more, and the block's length: the place of the first extension. That the place lies in the hello, here and
+// below, is what the caller's own test gives; a type for it would be made and opened at each call.
 fn after_suites(hello: &[u8], at: usize) -> Option<usize>
     requires { at ≤ length hello.now }
     ensures { BlockAs result hello.now at }

@@ -10,7 +10,7 @@ ghost use Rattle.fingerprint.specs.Code.{ReadAs};
 use crate::Fingerprint;
 use crate::head::{Head, read_head};
 use crate::report::{ext_types, name_in, part, report};
-use crate::walk::{Survey, survey_block};
+use crate::walk::{Kind, Survey, survey_block};
 use fingerprint_lists::Types;
 use profiles::ExtType;
 use wire::Refusal;
@@ -54,13 +54,13 @@ pub fn name_or<'a>(hello: &'a [u8], default: &'a [u8]) -> &'a [u8]
     let Ok((_, found)) = survey(hello, &mut [0; 64], &mut [0; 64]) else {
         return default;
     };
-    match name_in(found.bodies[0]) {
+    match name_in(found.body(Kind::Name)) {
         Some(name) => part(hello, name),
         None => default,
     }
 }
 
-// The types in rising order; none for a refused hello.
+// The types in rising order; none for a refused hello, as document 01 has it: the refusal is told by the other calls.
 pub fn extension_set(hello: &[u8]) -> Types
     ensures { result ≡ types_of (extension_set (read hello.now)) }
 {

@@ -5,7 +5,8 @@ ghost use Rattle.fingerprint.specs.Code.{part_of, name_in, Readable, ReportAs};
 
 use crate::Fingerprint;
 use crate::head::Head;
-use crate::walk::Survey;
+use crate::walk::{Kind, Survey};
+use fingerprint_bodies::Prefix;
 use fingerprint_lists::Span;
 use profiles::{ExtType, Group};
 
@@ -34,13 +35,14 @@ pub fn name_in(body: Span) -> Option<Span>
 }
 
 // The types, from the numbers that the walk left. A loop that copies: the array's `map` goes over an iterator that owns it, and made the
-// report take twice as long.
+// report take twice as long. By its place, for under `iter_mut().zip(..)` no invariant of the loop can name what was written. Groups are made
+// of numbers by the same loop (`From<Words>` of fingerprint_lists): over both types it would take a trait, for one line.
 pub fn ext_types(numbers: &[u16; 64]) -> [ExtType; 64]
     ensures { result ≡ map ext_type numbers.now }
 {
     let mut types = [ExtType(0); 64];
-    for i in 0..64 {
-        types[i] = ExtType(numbers[i]);
+    for (i, &number) in numbers.iter().enumerate() {
+        types[i] = ExtType(number);
     }
     types
 }
@@ -55,13 +57,18 @@ pub fn report(
     requires { Readable hello.now head found }
     ensures { ReportAs hello.now head found types ids result }
 {
-    let bodies = found.bodies;
     let suite_list = fingerprint_lists::words_in(part(hello, head.suites));
-    let groups = fingerprint_lists::group_list(part(hello, bodies[1]));
-    let shares = fingerprint_lists::key_share_groups(part(hello, bodies[5]));
-    let algorithms = fingerprint_lists::word_list(part(hello, bodies[2]), 2);
-    let versions = fingerprint_lists::word_list(part(hello, bodies[4]), 1);
-    let at_protocols = bodies[3];
+    let groups = fingerprint_lists::group_list(part(hello, found.body(Kind::Groups)));
+    let shares = fingerprint_lists::key_share_groups(part(hello, found.body(Kind::Shares)));
+    let algorithms = fingerprint_lists::word_list(
+        part(hello, found.body(Kind::Algorithms)),
+        Prefix::TwoBytes,
+    );
+    let versions = fingerprint_lists::word_list(
+        part(hello, found.body(Kind::Versions)),
+        Prefix::OneByte,
+    );
+    let at_protocols = found.body(Kind::Protocols);
     let names = fingerprint_lists::protocol_names(part(hello, at_protocols), at_protocols.start);
     let cipher_suites = suite_list.items;
     let supported_groups = groups.items;
@@ -85,7 +92,7 @@ pub fn report(
         version_count: versions.count,
         alpn,
         alpn_count: names.count,
-        sni: name_in(bodies[0]),
+        sni: name_in(found.body(Kind::Name)),
         transport_param_ids: ids,
         id_count: found.id_count,
     }

@@ -1,13 +1,16 @@
 // The walk over the extensions: it only checks, and notes where the bodies stand that the report reads; the parameter ids, all of which
 // question 22 asks for, are read once and kept. Questions 20 to 23, for one extension before the next.
-ghost use Rattle.std.specs.Prelude.{◌%◌, ◌≤◌, ◌≡◌, length, take, replicate};
+ghost use Rattle.std.specs.Iterator.{at_most};
+ghost use Rattle.std.specs.Prelude.{◌-◌, ◌%◌, ◌≤◌, ◌≡◌, length, take, replicate};
 ghost use Rattle.wire.specs.Sums.{member};
 ghost use Rattle.fingerprint_bodies.specs.Body.{kind};
 ghost use Rattle.fingerprint_parameters.specs.Code.{Marked};
 ghost use Rattle.fingerprint.specs.Code as code;
-ghost use Rattle.fingerprint.specs.Code.{meant, HeaderAs, BodyAsked, StepAs, SurveyAs};
+ghost use Rattle.fingerprint.specs.Code.{meant, note_of, HeaderFound, HeaderAs, GivesHeader, BodyAsked, StepAs, SurveyAs};
 
+use fingerprint_bodies::Prefix;
 use fingerprint_lists::Span;
+use fingerprint_parameters::Marks;
 use wire::{Refusal, be16};
 
 // What kind of body an extension has, by its type: which list is read from it.
@@ -23,10 +26,11 @@ pub enum Kind {
     Other,
 }
 
-impl Kind {
-    pub fn of(t: u16) -> Kind
-        ensures { meant result ≡ kind t }
-    {
+// By an extension's type, with the numbers that document 01 has for it (question 21).
+impl From<u16> for Kind {
+    ghost from_gives = { λ t k. meant k ≡ kind t };
+
+    fn from(t: u16) -> Kind {
         match t {
             0x0000 => Kind::Name,
             0x000a => Kind::Groups,
@@ -38,7 +42,9 @@ impl Kind {
             _ => Kind::Other,
         }
     }
+}
 
+impl Kind {
     // The place in a survey's bodies; the last is for those that are not read.
     pub fn slot(self) -> usize
         ensures { result ≡ code.slot (meant self) }
@@ -48,12 +54,21 @@ impl Kind {
 }
 
 // What the walk found: how many extensions there are, for each kind of body the part of the hello that holds it, empty where there is
-// none, and how many parameter ids there are.
+// none (what is read of an empty body and of none is the same), and how many parameter ids there are. Types and ids stand in lent arrays, for there is no heap, and these are their counts.
 #[derive(Clone, Copy)]
 pub struct Survey {
     pub count: usize,
     pub bodies: [Span; 8],
     pub id_count: usize,
+}
+
+impl Survey {
+    // The part of the hello that holds the body of a kind.
+    pub fn body(&self, kind: Kind) -> Span
+        ensures { result ≡ note_of self.now (meant kind) }
+    {
+        self.bodies[kind.slot()]
+    }
 }
 
 // A header: the extension's type and its body's ends.
@@ -64,13 +79,10 @@ pub struct Header {
     pub end: usize,
 }
 
-// One extension: its type, its body's kind and ends, and how many parameter ids it has.
+// What a body was found to be: its kind, and how many parameter ids it has.
 #[derive(Clone, Copy, PartialEq, Eq, Debug)]
 pub struct Step {
-    pub ext_type: u16,
     pub kind: Kind,
-    pub start: usize,
-    pub end: usize,
     pub ids: usize,
 }
 
@@ -81,9 +93,9 @@ pub fn ask_body(kind: Kind, body: &[u8], ids: &mut [u64; 64]) -> Result<usize, R
 {
     match kind {
         Kind::Name => fingerprint_bodies::ask_name(body)?,
-        Kind::Groups | Kind::Algorithms => fingerprint_bodies::ask_words(body, 2)?,
+        Kind::Groups | Kind::Algorithms => fingerprint_bodies::ask_words(body, Prefix::TwoBytes)?,
         Kind::Protocols => fingerprint_bodies::ask_protocols(body)?,
-        Kind::Versions => fingerprint_bodies::ask_words(body, 1)?,
+        Kind::Versions => fingerprint_bodies::ask_words(body, Prefix::OneByte)?,
         Kind::Shares => fingerprint_bodies::ask_shares(body)?,
         Kind::Parameters => return fingerprint_parameters::ask_parameters(body, ids),
         Kind::Other => (),
@@ -91,37 +103,26 @@ pub fn ask_body(kind: Kind, body: &[u8], ids: &mut [u64; 64]) -> Result<usize, R
     Ok(0)
 }
 
-// The mark of a type: its rest by 64. A type is looked up among those before it only where one of them has the same mark.
-fn mark(t: u16) -> usize
-    ensures { result ≡ t % 64 }
-{
-    usize::from(t % 64)
-}
-
-// The types before an extension, the first of an array, and the marks of these. Whoever has no marks sets all.
+// The types before an extension, and the marks of these: a type is looked up among them only where one has the same mark. Whoever has no
+// marks sets all: with an Option the reader would ask at each type whether there are some.
 #[derive(Clone, Copy)]
 pub struct Known<'a> {
-    pub types: &'a [u16; 64],
-    pub count: usize,
-    pub marks: &'a [bool; 64],
-    ghost few: { count ≤ 64 },
-    ghost long: { length types.now ≡ 64 },
-    ghost marked: { Marked marks.now (take count types.now) },
+    pub types: &'a [u16],
+    pub marks: &'a Marks,
+    ghost marked: { Marked marks.now.rests types.now },
 }
 
 impl Known<'_> {
     // The type is among them.
     pub fn has(&self, t: u16) -> bool
-        ensures { result ≡ member t (take self.now.count self.now.types.now) }
+        ensures { result ≡ member t self.now.types.now }
     {
-        let marks = self.marks;
-        let types = self.types;
-        marks[mark(t)] && types[..self.count].contains(&t)
+        self.marks.has(u64::from(t)) && self.types.contains(&t)
     }
 }
 
-// The header of the extension at a place; none where header or body are not inside the block. That a place lies in the hello is a
-// fact about two arguments, which a type of its own would hold no plainer.
+// The header of the extension at a place; none where header or body are not inside the block. That the place lies in the hello is a fact
+// about two arguments: `Headers` holds it from one extension to the next, and whoever asks for one extension has tested it.
 pub fn read_header(hello: &[u8], at: usize) -> Option<Header>
     requires { at ≤ length hello.now }
     ensures { HeaderAs result hello.now at }
@@ -142,38 +143,61 @@ pub fn read_header(hello: &[u8], at: usize) -> Option<Header>
     })
 }
 
-// The questions of the extension at a place, after others.
-pub fn extension(
+// The headers of the extensions from a place on, one after the other, as long as a whole one stands there: where the place is not the
+// hello's end after them, one is cut. Who asks for the place goes over them by `while let`, since a `for` keeps its iterator to itself.
+#[derive(Clone, Copy)]
+pub struct Headers<'a> {
+    hello: &'a [u8],
+    pub at: usize,
+    ghost inside: { at ≤ length hello.now },
+}
+
+impl<'a> Headers<'a> {
+    pub fn of(hello: &'a [u8], at: usize) -> Headers<'a>
+        requires { at ≤ length hello.now }
+        ensures { (result.hello.now ≡ hello.now) × (result.at ≡ at) }
+    {
+        Headers { hello, at }
+    }
+}
+
+impl Iterator for Headers<'_> {
+    type Item = Header;
+
+    ghost next_gives = { λ s r t. (t.hello.now ≡ s.hello.now) × GivesHeader s.hello.now s.at r t.at };
+
+    ghost remaining = { λ s. at_most (length s.hello.now - s.at) };
+
+    fn next(&mut self) -> Option<Header> {
+        let header = read_header(self.hello, self.at)?;
+        self.at = header.end;
+        Some(header)
+    }
+}
+
+// The questions of an extension after its header, after others.
+pub fn ask_extension(
     hello: &[u8],
-    at: usize,
+    header: Header,
     known: Known<'_>,
     ids: &mut [u64; 64],
 ) -> Result<Step, Refusal>
-    requires { (at ≤ length hello.now) × (length hello.now ≤ 16384) }
-    ensures { StepAs result hello.now at (take known.entry.count known.entry.types.now) ids.old ids.new }
+    requires { HeaderFound hello.now (header.start - 4) header.ext_type header.start header.end × (length hello.now ≤ 16384) }
+    ensures { StepAs result hello.now header known.entry.types.now ids.old ids.new }
 {
-    let header = read_header(hello, at).ok_or(Refusal::ExtensionCut)?;
-    let ext_type = header.ext_type;
-    if known.has(ext_type) {
+    if known.has(header.ext_type) {
         return Err(Refusal::ExtensionMalformed);
     }
-    let kind = Kind::of(ext_type);
-    let start = header.start;
-    let end = header.end;
-    let new_ids = ask_body(kind, &hello[start..end], ids)?;
-    if 64 <= known.count {
+    let kind = Kind::from(header.ext_type);
+    let new_ids = ask_body(kind, &hello[header.start..header.end], ids)?;
+    if 64 <= known.types.len() {
         return Err(Refusal::ListTooLong);
     }
-    Ok(Step {
-        ext_type,
-        kind,
-        start,
-        end,
-        ids: new_ids,
-    })
+    Ok(Step { kind, ids: new_ids })
 }
 
-// The whole block, from a place on; types and parameter ids are left in arrays of zeros.
+// The whole block, from a place on; types and parameter ids are left in arrays of zeros. The types so far are looked at while they are
+// counted, so their count stands beside the loop.
 pub fn survey_block(
     hello: &[u8],
     block: usize,
@@ -183,31 +207,31 @@ pub fn survey_block(
     requires { (block ≤ length hello.now) × (length hello.now ≤ 16384) × (types.old ≡ replicate 64 0) × (ids.old ≡ replicate 64 0) }
     ensures { SurveyAs hello.now block result types.new ids.new }
 {
-    let mut marks = [false; 64];
+    let mut marks = Marks { rests: [false; 64] };
     let mut bodies = [Span {
         start: 0,
         length: 0,
     }; 8];
     let mut count = 0;
     let mut id_count = 0;
-    let mut at = block;
-    // A place and not an item: each step takes as many bytes as the extension has.
-    while at < hello.len() {
+    let mut headers = Headers::of(hello, block);
+    while let Some(header) = headers.next() {
         let known = Known {
-            types,
-            count,
+            types: &types[..count],
             marks: &marks,
         };
-        let step = extension(hello, at, known, ids)?;
-        types[count] = step.ext_type;
-        marks[mark(step.ext_type)] = true;
+        let step = ask_extension(hello, header, known, ids)?;
+        types[count] = header.ext_type;
+        marks.add(u64::from(header.ext_type));
         bodies[step.kind.slot()] = Span {
-            start: step.start,
-            length: step.end - step.start,
+            start: header.start,
+            length: header.end - header.start,
         };
         count += 1;
         id_count += step.ids;
-        at = step.end;
+    }
+    if headers.at < hello.len() {
+        return Err(Refusal::ExtensionCut);
     }
     Ok(Survey {
         count,

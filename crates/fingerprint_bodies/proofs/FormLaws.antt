@@ -3,20 +3,20 @@ use Prim.Native.Nat.{ℕ, zero-le, ◌+◌, ◌-◌, ◌*◌, ◌%◌, ◌≤◌
 use mathlib.Core.Path.{◌≡◌, refl, sym, ap, ◌∙◌}
 use mathlib.Core.Bool.{Bool, true, false, cond, ◌&&◌}
 use mathlib.Core.Logic.{⊎_elim}
-use mathlib.Core.List.{List, [], ◌∷◌}
+use mathlib.Core.List.{List, [], ◌∷◌, map}
 use mathlib.Core.Option.{Option, none, some}
 use native.Mathlib.Omega.{arith}
 use borrow.Author.Tests.{le-leb, lt-leb, eq-eqb, ne_eqb, eqb-true, leb-true}
-use lib.ListN.{length, take, drop, get_or, length-drop}
+use lib.ListN.{length, take, drop, get_or, length-drop, length-map}
 use lib.Dec.{eqb, leb}
 use Rattle.wire.specs.Numbers.{number}
 use Rattle.wire.proofs.ListLaws.{lt-or-le}
 use Rattle.wire.proofs.SumLaws.{and_left, and_right}
-use Rattle.fingerprint_bodies.specs.Entries.{bind, whole, at_least, all_entries, passing}
-use Rattle.fingerprint_bodies.specs.Forms.{words_in, even_words, word_list, one_entry, one_name, some_names, one_share}
+use Rattle.fingerprint_bodies.specs.Entries.{Entry, bind, whole, at_least, mapped, all_entries, shown}
+use Rattle.fingerprint_bodies.specs.Forms.{words_in, even_words, word_list, one_entry}
 use Rattle.fingerprint_bodies.specs.Code.{within, count_asked, is_whole}
 use Rattle.fingerprint_bodies.proofs.PieceLaws.{number-there, number_cut, whole_is, whole-not}
-use Rattle.fingerprint_bodies.proofs.EntryLaws.{plus, count-passing}
+use Rattle.fingerprint_bodies.proofs.EntryLaws.{plus, all_shown}
 use Rattle.varint.proofs.ByteLaws.{number-one}
 
 -- n is the count that stands in front
@@ -151,25 +151,46 @@ within-counted least m (some l) =
     both true = refl
     both false = refl
 
-module _ (l : List ℕ) where
-  pub names-counted : within 16 (bind (all_entries (passing one_name) l) (at_least 1)) ≡ within 16 (some_names l)
-  unfolding some_names all_entries
-  names-counted =
-      within-counted 1 16 (all_entries (passing one_name) l)
-      ∙ ap (counted 1 16) (count-passing one_name 0 (length l) l)
-      ∙ sym (within-counted 1 16 (all_entries one_name l))
+-- a list behind its length, by the count of its entries
+module _ {A : Type 0} (one : List ℕ → Option (Entry A)) (least m : ℕ) (bs : List ℕ) where
+  abbrev listed : List ℕ → Option (List A)
+  listed l = bind (all_entries one l) (at_least least)
 
-  any : (n : ℕ) → counted 0 64 (some n) ≡ cond (leb n 64) 0 23
-  any n = rw (le-leb 0 n zero-le)
+  pub list-other : is_whole 2 bs ≡ false → within m (bind (whole 2 bs) listed) ≡ 21
+  list-other t = within_none m (bind (whole 2 bs) listed) (after-other 2 bs listed t)
 
-  any-count : {A : Type 0} (x : Option (List A)) → counted 0 64 (plus 0 x) ≡ within 64 x
-  unfolding within plus
-  any-count none = refl
-  any-count (some l) = ap (λ (n : ℕ). counted 0 64 (some n)) (let z : 0 + length l ≡ length l = omega arith in z) ∙ any (length l)
+  pub list-counted : (n : Option ℕ) → is_whole 2 bs ≡ true → plus 0 (all_entries one (drop 2 bs)) ≡ n → within m (bind (whole 2 bs) listed) ≡ counted least m n
+  list-counted n t e =
+      ap (λ (x : Option (List A)). within m x) (after-whole 2 bs listed t)
+      ∙ within-counted least m (all_entries one (drop 2 bs))
+      ∙ ap (counted least m) e
 
-  pub shares-counted : within 64 (bind (all_entries (passing one_share) l) (at_least 0)) ≡ within 64 (all_entries one_share l)
-  unfolding all_entries
-  shares-counted =
-      within-counted 0 64 (all_entries (passing one_share) l)
-      ∙ ap (counted 0 64) (count-passing one_share 0 (length l) l)
-      ∙ any-count (all_entries one_share l)
+-- a list's entries told by a part are as many
+module _ {A B : Type 0} (f : A → B) where
+  plus_mapped : (x : Option (List A)) → plus 0 (mapped (map f) x) ≡ plus 0 x
+  unfolding mapped plus
+  plus_mapped none = refl
+  plus_mapped (some l) = ap (λ (n : ℕ). some (0 + n)) (length-map l f)
+
+  within-shown : (least m : ℕ) (one : List ℕ → Option (Entry A)) (l : List ℕ)
+      → within m (bind (all_entries (shown f one) l) (at_least least)) ≡ within m (bind (all_entries one l) (at_least least))
+  within-shown least m one l =
+      within-counted least m (all_entries (shown f one) l)
+      ∙ ap (counted least m) (ap (λ (x : Option (List B)). plus 0 x) (all_shown f one l) ∙ plus_mapped (all_entries one l))
+      ∙ sym (within-counted least m (all_entries one l))
+
+  pub list-shown : (least m : ℕ) (one : List ℕ → Option (Entry A)) (x : Option (List ℕ))
+      → within m (bind x (λ l. bind (all_entries (shown f one) l) (at_least least))) ≡ within m (bind x (λ l. bind (all_entries one l) (at_least least)))
+  unfolding bind within
+  list-shown least m one none = refl
+  list-shown least m one (some l) = within-shown least m one l
+
+-- a list that may be empty
+pub any-many : {A : Type 0} (m : ℕ) (x : Option (List ℕ)) (f : List ℕ → Option (List A)) → within m (bind x (λ l. bind (f l) (at_least 0))) ≡ within m (bind x f)
+unfolding within bind at_least
+any-many m none f = refl
+any-many {A} m (some l) f = go (f l)
+  where
+    go : (y : Option (List A)) → within m (bind y (at_least 0)) ≡ within m y
+    go none = refl
+    go (some k) = rw (le-leb 0 (length k) zero-le)

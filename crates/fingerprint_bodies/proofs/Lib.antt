@@ -1,6 +1,7 @@
 -- the code
 pub mod PieceLaws
 pub mod EntryLaws
+pub mod YieldLaws
 pub mod AskLaws
 pub mod OneLaws
 pub mod FormLaws

@@ -1,6 +1,6 @@
 -- One entry at the front of some bytes, by what the code asks of it. Assumes nothing.
-use Prim.Native.Nat.{ℕ, ◌+◌, ◌-◌, ◌≤◌, ◌<◌, zero-le}
-use mathlib.Core.Path.{◌≡◌, refl, sym, ◌∙◌}
+use Prim.Native.Nat.{ℕ, ◌+◌, ◌-◌, ◌≤◌, ◌<◌, zero, suc, zero-le}
+use mathlib.Core.Path.{◌≡◌, refl, sym, ap, ◌∙◌}
 use mathlib.Core.Bool.{cond}
 use mathlib.Core.Logic.{⊎_elim}
 use mathlib.Core.List.{List}
@@ -13,9 +13,10 @@ use lib.Dec.{leb}
 use Rattle.wire.specs.Numbers.{number}
 use Rattle.wire.proofs.ListLaws.{lt-or-le}
 use Rattle.varint.proofs.ByteLaws.{number-one}
-use Rattle.fingerprint_bodies.specs.Entries.{Entry, entry, bind, vector_at}
+use Rattle.fingerprint_bodies.specs.Entries.{Entry, entry, bind, shown, vector_at}
 use Rattle.fingerprint_bodies.specs.Body.{Share}
 use Rattle.fingerprint_bodies.specs.Forms.{one_name, one_share}
+use Rattle.fingerprint_bodies.proofs.BindLaws.{none-some, same_some, mapped-some}
 use Rattle.fingerprint_bodies.proofs.PieceLaws.{number-there, number_cut, vector-short, vector-there, vector-cut}
 
 -- ---- A vector of one byte or more, and what is made of it
@@ -66,6 +67,29 @@ module _ (bs : List ℕ) where
     pub name-there : (n : ℕ) → n ≡ get_or bs 0 0 → 1 ≤ n → n ≤ length bs - 1 → one_name bs ≡ some (entry (take n (drop 1 bs)) (drop (1 + n) bs))
     unfolding one_name filled
     name-there n e s k = filled-there (λ e. e) 1 bs n (number-one bs h ∙ sym e) h s k ∙ rw (drop-drop n 1 bs)
+
+-- what a name takes: its length's byte and those it counts
+name-is : (bs : List ℕ) (e : Entry (List ℕ)) → one_name bs ≡ some e → 1 + length e.value + length e.rest ≡ length bs
+name-is bs e q =
+    ⊎_elim (λ h. absurd (none-some (sym (name-short bs h) ∙ q)))
+    (λ h. ⊎_elim (λ k. absurd (none-some (sym (name-cut bs (omega arith) k) ∙ q))) (λ k. go h k (get_or bs 0 0) refl) (lt-or-le (length bs - 1) (get_or bs 0 0))) (lt-or-le (length bs) 2)
+  where
+    go : 2 ≤ length bs → get_or bs 0 0 ≤ length bs - 1 → (n : ℕ) → get_or bs 0 0 ≡ n → 1 + length e.value + length e.rest ≡ length bs
+    go h k zero z = absurd (none-some (sym (name-empty bs (omega arith) z) ∙ q))
+    go h k (suc m) z =
+        let n = suc m in
+        let there = name-there bs (omega arith) n (sym z) (omega arith) (omega (arith, z, k)) in
+        let same : e ≡ entry (take n (drop 1 bs)) (drop (1 + n) bs) = same_some _ _ (sym q ∙ there) in
+        let long = length-take-le n (drop 1 bs) (omega (arith, length-drop 1 bs, z, k)) in
+        rw same (omega (arith, long, length-drop (1 + n) bs, z, k))
+
+pub name-takes : (bs new : List ℕ) (n : ℕ) → shown length one_name bs ≡ some (entry n new) → 1 + n + length new ≡ length bs
+unfolding shown
+name-takes bs new n q =
+    let e = mapped-some (λ e. entry (length e.value) e.rest) (one_name bs) (entry n new) q in
+    let v : length e.value.value ≡ n = ap (λ (x : Entry ℕ). x.value) e.made in
+    let r : e.value.rest ≡ new = ap (λ (x : Entry ℕ). x.rest) e.made in
+    omega (arith, name-is bs e.value e.is, v, ap length r)
 
 -- ---- A key share
 

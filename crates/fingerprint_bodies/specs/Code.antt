@@ -6,7 +6,9 @@ use Rattle.wire.specs.Numbers.{number}
 use Rattle.fingerprint_bodies.specs.Entries.{Entry, entry, or_empty}
 use Rattle.fingerprint_bodies.specs.Body.{Share, Body, Kind}
 use Rattle.fingerprint_bodies.specs.Forms.{one_name, one_share, body_of, ids_new, within_counts}
-use Rattle.fingerprint_bodies.specs.declared.Share as code
+use Rattle.fingerprint_bodies.specs.declared.Entry as code
+use Rattle.fingerprint_bodies.specs.declared.Prefix.{Prefix}
+use Rattle.fingerprint_bodies.specs.declared.Prefix.TheVariants as one
 
 -- ---- The questions of a body, as the number of the first "no"; 0 where there is none (`told_number` of what the code answers)
 
@@ -30,6 +32,11 @@ asked_of (some x) = cond (ids_new x) (cond (within_counts x) 0 23) 22
 -- "Body in its form? 21 Parameter ids all new? 22 Lists within their counts? 23"
 unfoldable pub asked : Kind → List ℕ → ℕ
 asked k bs = asked_of (body_of k bs)
+
+-- the bytes that the length before a list takes
+abbrev pub prefix_bytes : Prefix → ℕ
+prefix_bytes one.OneByte = 1
+prefix_bytes one.TwoBytes = 2
 
 -- the count in so many bytes at the front reaches exactly the end
 unfoldable pub is_whole : ℕ → List ℕ → Bool
@@ -63,16 +70,21 @@ pub record ShareFound (bs : List ℕ) (group used : ℕ) : Type 0 where
   pub some : 1 ≤ used
   pub within : used ≤ length bs
 
-abbrev pub ShareAs : std.Option code.Share → List ℕ → Type 0
-ShareAs (Some s) bs = ShareFound bs s.group s.used
+abbrev pub ShareAs : std.Option (code.Entry ℕ) → List ℕ → Type 0
+ShareAs (Some s) bs = ShareFound bs s.value s.used
 ShareAs None bs = one_share bs ≡ none
 
--- an entry of some form: how many bytes it takes
-pub record UsedFound (form : List ℕ → Option (Entry (Unit {0}))) (bs : List ℕ) (used : ℕ) : Type 0 where
-  pub is : form bs ≡ some (entry (tt {0}) (drop used bs))
+-- an entry of some form: its value, and how many bytes it takes
+pub record EntryFound {A : Type 0} (form : List ℕ → Option (Entry A)) (bs : List ℕ) (v : A) (used : ℕ) : Type 0 where
+  pub is : form bs ≡ some (entry v (drop used bs))
   pub some : 1 ≤ used
   pub within : used ≤ length bs
 
-abbrev pub UsedAs : std.Option ℕ → (List ℕ → Option (Entry (Unit {0}))) → List ℕ → Type 0
-UsedAs (Some n) form bs = UsedFound form bs n
-UsedAs None form bs = form bs ≡ none
+abbrev pub EntryAs : {A : Type 0} → std.Option (code.Entry A) → (List ℕ → Option (Entry A)) → List ℕ → Type 0
+EntryAs (Some f) form bs = EntryFound form bs f.value f.used
+EntryAs None form bs = form bs ≡ none
+
+-- a step from one rest of a list to the next: the entry at the front, or none where no whole one stands there
+abbrev pub Gives : {A : Type 0} → (List ℕ → Option (Entry A)) → List ℕ → std.Option A → List ℕ → Type 0
+Gives form old (Some v) new = (form old ≡ some (entry v new)) × (length new < length old)
+Gives form old None new = (form old ≡ none) × (new ≡ old)

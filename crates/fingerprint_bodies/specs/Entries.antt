@@ -64,6 +64,19 @@ entries one (suc f) (b ∷ bs) = bind (one (b ∷ bs)) (λ e. first e.value (ent
 unfoldable pub all_entries : {A : Type 0} → (List ℕ → Option (Entry A)) → List ℕ → Option (List A)
 all_entries one bs = entries one (length bs) bs
 
--- a form without its value: what stands after the entry is all that is told
-unfoldable pub passing : {A : Type 0} → (List ℕ → Option (Entry A)) → List ℕ → Option (Entry (Unit {0}))
-passing one bs = mapped (λ e. entry (tt {0}) e.rest) (one bs)
+-- the entries at the front, as long as a whole one stands there; fuel as in `entries`
+unfoldable pub next_of : {A : Type 0} → Option (Entry A) → (List ℕ → List A) → List A
+next_of none later = []
+next_of (some e) later = e.value ∷ later e.rest
+
+unfoldable pub fronts : {A : Type 0} → (List ℕ → Option (Entry A)) → ℕ → List ℕ → List A
+fronts one zero bs = []
+fronts one (suc f) [] = []
+fronts one (suc f) (b ∷ bs) = next_of (one (b ∷ bs)) (fronts one f)
+
+unfoldable pub front_entries : {A : Type 0} → (List ℕ → Option (Entry A)) → List ℕ → List A
+front_entries one bs = fronts one (length bs) bs
+
+-- a form of which a part of the value is told
+unfoldable pub shown : {A B : Type 0} → (A → B) → (List ℕ → Option (Entry A)) → List ℕ → Option (Entry B)
+shown f one bs = mapped (λ e. entry (f e.value) e.rest) (one bs)

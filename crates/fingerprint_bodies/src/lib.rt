@@ -3,44 +3,52 @@
 // Document 01, "Reading" and questions 21 and 23.
 #![tactic(auto)]
 
-ghost use Rattle.std.specs.Prelude.{◌≡◌, ◌≤◌, List, ℕ};
+ghost use Rattle.std.specs.Prelude.{◌≡◌, ◌≤◌, List, ℕ, length};
+ghost use Rattle.std.specs.Iterator.{at_most};
 ghost use Rattle.std.proofs.Math.Option.{Option};
 ghost use Rattle.wire.specs.Refusals.{told_number};
-ghost use Rattle.fingerprint_bodies.specs.Entries.{Entry, bind, at_least, all_entries, passing};
-ghost use Rattle.fingerprint_bodies.specs.Forms.{word_list, one_entry, server_name, one_name, protocol_names, one_share, key_shares};
-ghost use Rattle.fingerprint_bodies.specs.Code.{is_whole, count_asked, formed, within, NameAs, ShareAs, UsedAs};
+ghost use Rattle.fingerprint_bodies.specs.Entries.{Entry, bind, number_at, whole, at_least, all_entries, shown};
+ghost use Rattle.fingerprint_bodies.specs.Forms.{word_list, one_entry, server_name, one_name, protocol_names, one_share, group_of, key_shares};
+ghost use Rattle.fingerprint_bodies.specs.Code.{prefix_bytes, is_whole, count_asked, formed, within, NameAs, ShareAs, EntryAs, Gives};
 
+use std::marker::PhantomData;
 use wire::{Refusal, be16};
 
-// A key share at the front of some bytes: its group, and the bytes that it takes.
+// The length before a list takes one byte or two.
 #[derive(Clone, Copy, PartialEq, Eq, Debug)]
-pub struct Share {
-    pub group: u16,
-    pub used: usize,
+pub enum Prefix {
+    OneByte,
+    TwoBytes,
 }
 
-// The count in `width` bytes at the body's front reaches exactly the body's end.
-pub fn is_whole(body: &[u8], width: usize) -> bool
-    requires { (1 ≤ width) × (width ≤ 2) }
-    ensures { result ≡ is_whole width body.now }
+impl Prefix {
+    pub fn bytes(self) -> usize
+        ensures { result ≡ prefix_bytes self }
+    {
+        match self {
+            Prefix::OneByte => 1,
+            Prefix::TwoBytes => 2,
+        }
+    }
+}
+
+// The length at the body's front reaches exactly the body's end.
+pub fn is_whole(body: &[u8], prefix: Prefix) -> bool
+    ensures { result ≡ is_whole (prefix_bytes prefix) body.now }
 {
     let n = body.len();
-    if n < width {
-        return false;
+    match prefix {
+        Prefix::OneByte => 1 <= n && usize::from(body[0]) == n - 1,
+        Prefix::TwoBytes => 2 <= n && usize::from(be16(body)) == n - 2,
     }
-    if width == 1 {
-        return usize::from(body[0]) == n - 1;
-    }
-    usize::from(be16(body)) == n - 2
 }
 
-// 000a, 000d with a count in two bytes, 002b with one in one byte: 16-bit numbers, one or more.
-pub fn ask_words(body: &[u8], width: usize) -> Result<(), Refusal>
-    requires { (1 ≤ width) × (width ≤ 2) }
-    ensures { told_number result ≡ within 64 (word_list width body.now) }
+// 000a, 000d with a length in two bytes, 002b with one in one byte: 16-bit numbers, one or more.
+pub fn ask_words(body: &[u8], prefix: Prefix) -> Result<(), Refusal>
+    ensures { told_number result ≡ within 64 (word_list (prefix_bytes prefix) body.now) }
 {
-    if is_whole(body, width) {
-        return ask_count(body.len() - width);
+    if is_whole(body, prefix) {
+        return ask_count(body.len() - prefix.bytes());
     }
     Err(Refusal::ExtensionMalformed)
 }
@@ -65,7 +73,7 @@ fn ask_count(bytes: usize) -> Result<(), Refusal>
 pub fn ask_name(body: &[u8]) -> Result<(), Refusal>
     ensures { told_number result ≡ formed (server_name body.now) }
 {
-    if is_whole(body, 2) {
+    if is_whole(body, Prefix::TwoBytes) {
         return ask_entry(&body[2..]);
     }
     Err(Refusal::ExtensionMalformed)
@@ -81,7 +89,7 @@ fn ask_entry(list: &[u8]) -> Result<(), Refusal>
     if list[0] != 0 {
         return Err(Refusal::ExtensionMalformed);
     }
-    if is_whole(&list[1..], 2) {
+    if is_whole(&list[1..], Prefix::TwoBytes) {
         return Ok(());
     }
     Err(Refusal::ExtensionMalformed)
@@ -105,18 +113,15 @@ pub fn one_name(rest: &[u8]) -> Option<usize>
     Some(length)
 }
 
-// 0010: names, one or more, up to 16 of them.
-pub fn ask_protocols(body: &[u8]) -> Result<(), Refusal>
-    ensures { told_number result ≡ within 16 (protocol_names body.now) }
-{
-    if is_whole(body, 2) {
-        return ask_entries::<Name>(&body[2..], 1, 16);
-    }
-    Err(Refusal::ExtensionMalformed)
+// An entry at the front of some bytes: what it is told by, and the bytes that it takes.
+#[derive(Clone, Copy, PartialEq, Eq, Debug)]
+pub struct Entry<T> {
+    pub value: T,
+    pub used: usize,
 }
 
 // A group, and its key of one byte or more with its count in two bytes.
-pub fn one_share(rest: &[u8]) -> Option<Share>
+pub fn one_share(rest: &[u8]) -> Option<Entry<u16>>
     ensures { ShareAs result rest.now }
 {
     let n = rest.len();
@@ -130,59 +135,136 @@ pub fn one_share(rest: &[u8]) -> Option<Share>
     if n - 4 < length {
         return None;
     }
-    Some(Share {
-        group: be16(rest),
+    Some(Entry {
+        value: be16(rest),
         used: 4 + length,
     })
+}
+
+// A kind of entry of a list. It is read off the front of some bytes, where it is whole.
+pub trait Listed {
+    type Value: Copy;
+
+    ghost form: { List ℕ → Option (Entry Self.Value) };
+
+    fn at_front(rest: &[u8]) -> Option<Entry<Self::Value>>
+        ensures { EntryAs result form rest.now };
+}
+
+// A 16-bit number.
+pub struct Word;
+
+impl Listed for Word {
+    type Value = u16;
+
+    ghost form = { number_at 2 };
+
+    fn at_front(rest: &[u8]) -> Option<Entry<u16>> {
+        if rest.len() < 2 {
+            return None;
+        }
+        Some(Entry {
+            value: be16(rest),
+            used: 2,
+        })
+    }
+}
+
+// A name, told by its length.
+pub struct Name;
+
+impl Listed for Name {
+    type Value = usize;
+
+    ghost form = { shown length one_name };
+
+    fn at_front(rest: &[u8]) -> Option<Entry<usize>> {
+        let length = one_name(rest)?;
+        Some(Entry {
+            value: length,
+            used: 1 + length,
+        })
+    }
+}
+
+// A key share, told by its group.
+pub struct Share;
+
+impl Listed for Share {
+    type Value = u16;
+
+    ghost form = { shown group_of one_share };
+
+    fn at_front(rest: &[u8]) -> Option<Entry<u16>> {
+        one_share(rest)
+    }
+}
+
+// The entries of a list one after the other, as long as a whole one stands at the front of the rest. Where nothing is left over, all were
+// whole.
+#[derive(Drop)]
+pub struct Entries<'a, E> {
+    pub rest: &'a [u8],
+    kind: PhantomData<E>,
+}
+
+impl<'a, E: Listed> Entries<'a, E> {
+    pub fn of(list: &'a [u8]) -> Entries<'a, E>
+        ensures { result.rest.now ≡ list.now }
+    {
+        Entries {
+            rest: list,
+            kind: PhantomData,
+        }
+    }
+}
+
+pub type Names<'a> = Entries<'a, Name>;
+
+impl<'a, E: Listed> Iterator for Entries<'a, E> {
+    type Item = E::Value;
+
+    ghost next_gives = { λ s r t. Gives E.form s.rest.now r t.rest.now };
+
+    ghost remaining = { λ s. at_most (length s.rest.now) };
+
+    #[inline(always)]
+    fn next(&mut self) -> Option<E::Value> {
+        let entry = E::at_front(self.rest)?;
+        self.rest = &self.rest[entry.used..];
+        Some(entry.value)
+    }
+}
+
+// 0010: names, one or more, up to 16 of them.
+pub fn ask_protocols(body: &[u8]) -> Result<(), Refusal>
+    ensures { told_number result ≡ within 16 (protocol_names body.now) }
+{
+    ask_entries::<Name>(body, 1, 16)
 }
 
 // 0033: key shares, up to 64 of them; there may be none.
 pub fn ask_shares(body: &[u8]) -> Result<(), Refusal>
     ensures { told_number result ≡ within 64 (key_shares body.now) }
 {
-    if is_whole(body, 2) {
-        return ask_entries::<Share>(&body[2..], 0, 64);
-    }
-    Err(Refusal::ExtensionMalformed)
+    ask_entries::<Share>(body, 0, 64)
 }
 
-// An entry of a list: the bytes that it takes at the front of some, or none where it is not whole.
-trait Listed {
-    ghost form: { List ℕ → Option (Entry (Unit {0})) };
-
-    fn used(rest: &[u8]) -> Option<usize>
-        ensures { UsedAs result form rest.now };
-}
-
-// A name is told by its length alone, and has no struct with fields.
-struct Name;
-
-impl Listed for Name {
-    ghost form = { passing one_name };
-
-    fn used(rest: &[u8]) -> Option<usize> {
-        Some(1 + one_name(rest)?)
-    }
-}
-
-impl Listed for Share {
-    ghost form = { passing one_share };
-
-    fn used(rest: &[u8]) -> Option<usize> {
-        Some(one_share(rest)?.used)
-    }
-}
-
-// Entries to the end, at least and at most so many.
-fn ask_entries<E: Listed>(list: &[u8], least: usize, most: usize) -> Result<(), Refusal>
-    ensures { told_number result ≡ within most (bind (all_entries E.form list.now) (at_least least)) }
+// A length in two bytes that reaches exactly the end, and after it entries, at least and at most so many.
+fn ask_entries<E: Listed>(body: &[u8], least: usize, most: usize) -> Result<(), Refusal>
+    ensures { told_number result ≡ within most (bind (whole 2 body.now) (λ l. bind (all_entries E.form l) (at_least least))) }
 {
-    let mut at = 0;
+    if !is_whole(body, Prefix::TwoBytes) {
+        return Err(Refusal::ExtensionMalformed);
+    }
+    // By `next`, since what is left over after the last is asked for.
+    let mut entries = Entries::<E>::of(&body[2..]);
     let mut k: usize = 0;
-    // A place and not an item: each step takes as many bytes as the entry has.
-    while at < list.len() {
-        at += E::used(&list[at..]).ok_or(Refusal::ExtensionMalformed)?;
+    while let Some(_) = entries.next() {
         k += 1;
+    }
+    if !entries.rest.is_empty() {
+        return Err(Refusal::ExtensionMalformed);
     }
     if k < least {
         return Err(Refusal::ExtensionMalformed);

@@ -1,12 +1,17 @@
 -- The lists that were found: what the bytes after their counts hold. Assumes nothing.
-use Prim.Native.Nat.{ℕ, ◌+◌, ◌≤◌}
+use Prim.Native.Nat.{ℕ, ◌+◌, ◌*◌, ◌≤◌}
 use mathlib.Core.Path.{◌≡◌, ap, ◌∙◌}
 use mathlib.Core.List.{List}
 use native.Mathlib.Omega.{arith}
 use lib.ListN.{length, drop, length-drop}
 use Rattle.wire.specs.Numbers.{Bytes}
 use Rattle.wire.specs.Answer.{result}
-use Rattle.fingerprint_bodies.specs.Entries.{all_entries}
+use Rattle.fingerprint_bodies.specs.Entries.{number_at, all_entries, front_entries}
+use Rattle.fingerprint_bodies.specs.Code.{Found}
+use Rattle.fingerprint_bodies.proofs.YieldLaws.{front-words}
+use Rattle.fingerprint_lists.proofs.WalkLaws.{share_form, share_groups, front-groups, groups-few}
+use Rattle.wire.specs.Front.{front}
+use Rattle.fingerprint_layout.specs.Layout.{littles}
 use Rattle.fingerprint_bodies.specs.Body as kind
 use Rattle.fingerprint_bodies.specs.Forms.{words_in, word_list, one_name, protocol_names, one_share, key_shares}
 use Rattle.fingerprint_lists.proofs.GoodLaws.{length-words_in, HoldsWords, words-after, FoundAfter, shares-after, names-after}
@@ -51,3 +56,25 @@ pub length_ids : {h : List ℕ} {head : Head} {found : Survey} {types ids : List
     → Bytes h → read h ≡ result v → FoundOf h head found types ids v → length ids ≡ 64
 unfolding report
 length_ids {h} {v = v} b e f = ap length f.ids-are.are ∙ length-padded 64 0 (report v).transport_param_ids (in-range h b v e).counts.ids
+
+-- ---- what `put_list` wrote: words, and the groups of key shares
+
+module _ (l : List ℕ) where
+  pub words-fit : length l ≤ 128 → 2 * length (front_entries (number_at 2) l) ≤ 128
+  words-fit h = rw (front-words l) (omega (arith, few_words l h))
+
+  -- k of them, and their bytes
+  pub record Listed (all : List ℕ) (k : ℕ) (old new : List ℕ) : Type 0 where
+    pub count : k ≡ length all
+    pub put : new ≡ front (littles 2 all) old
+
+  module _ {k : ℕ} {old new : List ℕ} where
+    pub words-put : (k ≡ length (front_entries (number_at 2) l)) × (new ≡ front (littles 2 (front_entries (number_at 2) l)) old) → Listed (words_in l) k old new
+    words-put p = record { count = rw (front-words l) at p.0; put = rw (front-words l) at p.1 }
+
+    pub groups-put : Found 64 (all_entries one_share l) → (k ≡ length (front_entries share_form l)) × (new ≡ front (littles 2 (front_entries share_form l)) old)
+        → Listed (share_groups l) k old new
+    groups-put f p = record { count = rw (front-groups l f) at p.0; put = rw (front-groups l f) at p.1 }
+
+  pub groups-fit : Found 64 (all_entries one_share l) → 2 * length (front_entries share_form l) ≤ 128
+  groups-fit f = rw (front-groups l f) (omega (arith, groups-few l f))

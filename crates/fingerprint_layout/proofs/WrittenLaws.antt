@@ -3,7 +3,7 @@ use Prim.Native.Nat.{ℕ, ◌≤◌}
 use mathlib.Core.Path.{◌≡◌, refl, sym, ap, ◌∙◌}
 use mathlib.Core.List.{List, ◌∷◌, ◌++◌, map, map-map, map-id, append_assoc}
 use native.Mathlib.Omega.{arith}
-use lib.ListN.{length, take, drop, length-append, take-append-drop}
+use lib.ListN.{length, take, get_or, drop, length-append, take-append-drop}
 use lib.Seq.{drop_at, length-take-le}
 use Rattle.wire.specs.Front.{front}
 use Rattle.wire.proofs.Writing.{lent_from, back_from, filled, joined}
@@ -20,8 +20,6 @@ use Rattle.fingerprint.specs.declared.walk.Survey.{Survey}
 use Rattle.fingerprint.proofs.ReportLaws.{report-shown}
 use Rattle.fingerprint_layout.specs.Layout.{littles, ranges, name_numbers, count_numbers, list_numbers, layout}
 use Rattle.fingerprint_layout.specs.Code.{suites_in, groups_in, shares_in, algorithms_in, versions_in, protocols_in, first_bytes, last_bytes, FirstPut, LastPut, ReportPut}
-use Rattle.fingerprint_layout.specs.declared.FirstCounts.{FirstCounts}
-use Rattle.fingerprint_layout.specs.declared.LastCounts.{LastCounts}
 use Rattle.fingerprint_layout.proofs.PieceLaws.{littles-append, length-littles}
 use Rattle.fingerprint_layout.proofs.PadLaws.{padded-full, group-numbers}
 use Rattle.fingerprint_layout.proofs.PlaceLaws.{front-front}
@@ -127,23 +125,23 @@ module _ {h : List ℕ} {head : Head} {found : Survey} {types ids : List ℕ} {v
   layout-found = parts ∙ ap layout fields-shown
 
 -- the counts of what was found
-module _ (session : ℕ) (found : Survey) (first : FirstCounts) (last : LastCounts) (name : Option Span) where
+module _ (session : ℕ) (found : Survey) (first last : List ℕ) (name : Option Span) where
   abbrev pub counts_found : List ℕ
   counts_found =
       session
-      ∷ first.suites
+      ∷ get_or first 0 0
       ∷ found.count
-      ∷ first.groups
-      ∷ first.shares
-      ∷ last.algorithms
-      ∷ last.versions
-      ∷ last.protocols
+      ∷ get_or first 1 0
+      ∷ get_or first 2 0
+      ∷ get_or last 0 0
+      ∷ get_or last 1 0
+      ∷ get_or last 2 0
       ∷ found.id_count
       ∷ name_numbers name
 
 pub report-put :
     {h : List ℕ} {head : Head} {found : Survey} {types ids : List ℕ}
-    {first : FirstCounts} {last : LastCounts} {part part' new : List ℕ} {name : Option Span} (old : List ℕ) → 24 ≤ length old
+    {first last part part' new : List ℕ} {name : Option Span} (old : List ℕ) → 24 ≤ length old
     → FirstPut h head found types first (lent_from 24 old) part
     → LastPut h found ids last (lent_from 536 (back_from 24 old part)) part'
     → name ≡ name_in (note_of found kind.name)
@@ -158,5 +156,5 @@ report-put {head = head} {found = found} {first = first} {last = last} {name = n
       is = λ v f.
           counts-last (littles 2 counts) (take 24 old) _ _ old long lists.output e
           ∙ ap (λ (l : List ℕ). front l old)
-          (rw (p.suite-count, p.group-count, p.share-count, q.algorithm-count, q.version-count, q.protocol-count, n) (layout-found f));
+          (rw (p.counts, q.counts, n) (layout-found f));
     }

@@ -1,5 +1,5 @@
 -- What the code's inner functions write. No call of include/crustdelta.h cites this file.
-use Rattle.std.specs.Prelude.{ℕ, ◌+◌, ◌≡◌, List, ◌++◌, map, length, replicate}
+use Rattle.std.specs.Prelude.{ℕ, ◌+◌, ◌≡◌, List, [], ◌∷◌, ◌++◌, map, length, replicate}
 use Rattle.wire.specs.Front.{front, Put}
 use Rattle.fingerprint_bodies.specs.Entries.{or_empty}
 use Rattle.fingerprint_bodies.specs.Body as kind
@@ -11,8 +11,6 @@ use Rattle.fingerprint.specs.Code.{part_of, note_of, FoundOf}
 use Rattle.fingerprint.specs.declared.head.Head.{Head}
 use Rattle.fingerprint.specs.declared.walk.Survey.{Survey}
 use Rattle.fingerprint_layout.specs.Layout.{littles, ranges, layout}
-use Rattle.fingerprint_layout.specs.declared.FirstCounts.{FirstCounts}
-use Rattle.fingerprint_layout.specs.declared.LastCounts.{LastCounts}
 
 -- n zeros
 unfoldable pub zeros : ℕ → List ℕ
@@ -50,16 +48,12 @@ unfoldable pub last_bytes : List ℕ → List ℕ → List Part → List ℕ →
 last_bytes algorithms versions protocols ids =
     littles 2 (padded 64 0 algorithms) ++ (littles 2 (padded 64 0 versions) ++ (littles 2 (ranges (padded 16 (span 0 0) (map span_of protocols))) ++ littles 8 ids))
 
-pub record FirstPut (h : List ℕ) (head : Head) (found : Survey) (types : List ℕ) (r : FirstCounts) (old new : List ℕ) : Type 0 where
-  pub suite-count : r.suites ≡ length (suites_in h head)
-  pub group-count : r.groups ≡ length (groups_in h found)
-  pub share-count : r.shares ≡ length (shares_in h found)
+pub record FirstPut (h : List ℕ) (head : Head) (found : Survey) (types r : List ℕ) (old new : List ℕ) : Type 0 where
+  pub counts : r ≡ length (suites_in h head) ∷ length (groups_in h found) ∷ length (shares_in h found) ∷ []
   pub put : Put (first_bytes (suites_in h head) types (groups_in h found) (shares_in h found)) 512 old new
 
-pub record LastPut (h : List ℕ) (found : Survey) (ids : List ℕ) (r : LastCounts) (old new : List ℕ) : Type 0 where
-  pub algorithm-count : r.algorithms ≡ length (algorithms_in h found)
-  pub version-count : r.versions ≡ length (versions_in h found)
-  pub protocol-count : r.protocols ≡ length (protocols_in h found)
+pub record LastPut (h : List ℕ) (found : Survey) (ids r : List ℕ) (old new : List ℕ) : Type 0 where
+  pub counts : r ≡ length (algorithms_in h found) ∷ length (versions_in h found) ∷ length (protocols_in h found) ∷ []
   pub put : Put (last_bytes (algorithms_in h found) (versions_in h found) (protocols_in h found) ids) 832 old new
 
 -- the report of the ClientHello that was found

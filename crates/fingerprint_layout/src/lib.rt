@@ -12,78 +12,66 @@ ghost use Rattle.fingerprint_layout.specs.Code.{FirstPut, LastPut, ReportPut};
 
 use fingerprint::head::Head;
 use fingerprint::report::{name_in, part};
-use fingerprint::walk::Survey;
+use fingerprint::walk::{Kind, Survey};
+use fingerprint_bodies::{Share, Word};
 use fingerprint_lists::after;
-use lists::{put_list, put_names, put_shares};
+use lists::{put_list, put_names};
 use numbers::{clear, put_counts, put_numbers};
 
-// How many entries each list has.
-#[derive(Clone, Copy, PartialEq, Eq, Debug)]
-pub struct FirstCounts {
-    pub suites: usize,
-    pub groups: usize,
-    pub shares: usize,
-}
-
-#[derive(Clone, Copy, PartialEq, Eq, Debug)]
-pub struct LastCounts {
-    pub algorithms: usize,
-    pub versions: usize,
-    pub protocols: usize,
-}
-
-// Writes the suites, the types, the groups and the groups of key shares: 512 bytes. Other lists than in `put_last_lists`, at other places:
-// one function for both would take each place and reader as a parameter.
+// Writes the suites, the types, the groups and the groups of key shares: 512 bytes. It tells how many suites, groups and shares there are.
+// Other lists than in `put_last_lists`, at other places: one function for both would take each place and kind of entry as a parameter.
+// Hello, head and findings go to both as they came, with the fact that they belong together: a struct of the three would be made in
+// `put_report` and taken apart here.
 fn put_first_lists(
     out: &mut [u8],
     hello: &[u8],
     head: Head,
     found: Survey,
     types: &[u16; 64],
-) -> FirstCounts
-    requires { (512 ≤ length out.old) × Readable hello.now head found × (length types.now ≡ 64) }
+) -> [usize; 3]
+    requires { (512 ≤ length out.old) × Readable hello.now head found }
     ensures { FirstPut hello.now head found types.now result out.old out.new }
 {
-    let bodies = found.bodies;
     clear(out, 512);
-    let suite_count = put_list(out, part(hello, head.suites));
+    let suites = put_list::<Word>(out, part(hello, head.suites));
     put_numbers(&mut out[128..], types);
-    let group_count = put_list(&mut out[256..], after(part(hello, bodies[1]), 2));
-    let share_count = put_shares(&mut out[384..], after(part(hello, bodies[5]), 2));
-    FirstCounts {
-        suites: suite_count,
-        groups: group_count,
-        shares: share_count,
-    }
+    let groups = put_list::<Word>(
+        &mut out[256..],
+        after(part(hello, found.body(Kind::Groups)), 2),
+    );
+    let shares = put_list::<Share>(
+        &mut out[384..],
+        after(part(hello, found.body(Kind::Shares)), 2),
+    );
+    [suites, groups, shares]
 }
 
-// Writes the algorithms, the versions, the protocols and the parameter ids: 832 bytes.
+// Writes the algorithms, the versions, the protocols and the parameter ids: 832 bytes. It tells how many algorithms, versions and
+// protocols there are.
 fn put_last_lists(
     out: &mut [u8],
     hello: &[u8],
     head: Head,
     found: Survey,
     ids: &[u64; 64],
-) -> LastCounts
-    requires { (832 ≤ length out.old) × Readable hello.now head found × (length ids.now ≡ 64) }
+) -> [usize; 3]
+    requires { (832 ≤ length out.old) × Readable hello.now head found }
     ensures { LastPut hello.now found ids.now result out.old out.new }
 {
-    let bodies = found.bodies;
     clear(out, 320);
-    let algorithm_count = put_list(out, after(part(hello, bodies[2]), 2));
-    let version_count = put_list(&mut out[128..], after(part(hello, bodies[4]), 1));
-    let at_protocols = bodies[3];
-    let protocol_count = put_names(
+    let algorithms = put_list::<Word>(out, after(part(hello, found.body(Kind::Algorithms)), 2));
+    let versions = put_list::<Word>(
+        &mut out[128..],
+        after(part(hello, found.body(Kind::Versions)), 1),
+    );
+    let at_protocols = found.body(Kind::Protocols);
+    let protocols = put_names(
         &mut out[256..],
         after(part(hello, at_protocols), 2),
         at_protocols.start + 2,
     );
     put_numbers(&mut out[320..], ids);
-    LastCounts {
-        algorithms: algorithm_count,
-        versions: version_count,
-        protocols: protocol_count,
-    }
+    [algorithms, versions, protocols]
 }
 
 // Writes the report of what the head and the walk found: 1,368 bytes. The counts stand before the lists, and are known after them.
@@ -95,22 +83,27 @@ pub fn put_report(
     types: &[u16; 64],
     ids: &[u64; 64],
 )
-    requires { (1368 ≤ length out.old) × Readable hello.now head found × (length types.now ≡ 64) × (length ids.now ≡ 64) }
+    requires { (1368 ≤ length out.old) × Readable hello.now head found }
     ensures { ReportPut hello.now head found types.now ids.now out.old out.new }
 {
-    let first = put_first_lists(&mut out[24..], hello, head, found, types);
-    let last = put_last_lists(&mut out[536..], hello, head, found, ids);
+    let [suites, groups, shares] = put_first_lists(&mut out[24..], hello, head, found, types);
+    let [algorithms, versions, protocols] = put_last_lists(
+        &mut out[536..],
+        hello,
+        head,
+        found,
+        ids,
+    );
     let counts: [usize; 9] = [
         head.session,
-        first.suites,
+        suites,
         found.count,
-        first.groups,
-        first.shares,
-        last.algorithms,
-        last.versions,
-        last.protocols,
+        groups,
+        shares,
+        algorithms,
+        versions,
+        protocols,
         found.id_count,
     ];
-    let bodies = found.bodies;
-    put_counts(out, &counts, name_in(bodies[0]));
+    put_counts(out, &counts, name_in(found.body(Kind::Name)));
 }

@@ -58,15 +58,13 @@ impl Little for u64 {
     }
 }
 
-// Writes numbers one after the other.
+// Writes numbers one after the other. Each is put by its place: of what goes through `chunks_exact_mut` a proof knows the length alone.
 pub fn put_numbers<T: Little>(out: &mut [u8], items: &[T])
     requires { T.WIDTH * length items.now ≤ length out.old }
     ensures { out.new ≡ front (littles T.WIDTH (map T.value items.now)) out.old }
 {
-    let mut at = 0;
-    for &item in items {
-        item.put(&mut out[at..]);
-        at += T::WIDTH;
+    for (i, &item) in items.iter().enumerate() {
+        item.put(&mut out[T::WIDTH * i..]);
     }
 }
 
@@ -80,8 +78,8 @@ pub fn put_range(out: &mut [u8], s: Span)
 }
 
 // Writes nine counts, and the name: 24 bytes.
-pub fn put_counts(out: &mut [u8], counts: &[usize], name: Option<Span>)
-    requires { (24 ≤ length out.old) × (length counts.now ≡ 9) }
+pub fn put_counts(out: &mut [u8], counts: &[usize; 9], name: Option<Span>)
+    requires { 24 ≤ length out.old }
     ensures { out.new ≡ front (littles 2 (counts.now ++ name_numbers name)) out.old }
 {
     put_numbers(out, counts);

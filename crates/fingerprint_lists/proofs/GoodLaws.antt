@@ -11,7 +11,9 @@ use lib.Dec.{eqb, leb}
 use Rattle.wire.proofs.SumLaws.{and_right}
 use Rattle.fingerprint_bodies.specs.Entries.{bind, or_empty, whole, at_least, entries, all_entries}
 use Rattle.fingerprint_bodies.specs.Forms.{words_in, even_words, word_list, one_name, some_names, protocol_names, one_share, key_shares}
-use Rattle.fingerprint_bodies.specs.Code.{within, is_whole, Found, Good}
+use Rattle.fingerprint_bodies.specs.Code.{within, is_whole, prefix_bytes, Found, Good}
+use Rattle.fingerprint_bodies.specs.declared.Prefix.{Prefix}
+use Rattle.fingerprint_bodies.specs.declared.Prefix.TheVariants as one
 use Rattle.fingerprint_bodies.proofs.PieceLaws.{whole_is, whole-not, whole-short}
 
 within-found : {A : Type 0} (m : ℕ) (x : Option (List A)) → within m x ≡ 0 → Found m x
@@ -22,6 +24,11 @@ within-found m (some l) e = record { there = refl; few = go (leb (length l) m) r
     go : (t : Bool) → leb (length l) m ≡ t → ◌≡◌ {A = ℕ} (cond t 0 23) 0 → length l ≤ m
     go true q e = leb-true (length l) m q
     go false q e = absurd (omega arith)
+
+-- a length takes a byte at least
+pub some_bytes : (p : Prefix) → 1 ≤ prefix_bytes p
+some_bytes one.OneByte = omega arith
+some_bytes one.TwoBytes = omega arith
 
 -- ---- an extension that is not there
 

@@ -1,39 +1,12 @@
 -- What the loops that read lists out of bodies need, and the structs that they make. Assumes nothing.
-use Prim.Native.Nat.{ℕ, suc, ◌+◌, ◌-◌, ◌*◌, ◌/◌, ◌<◌, ◌≤◌}
+use Prim.Native.Nat.{ℕ, ◌-◌}
 use mathlib.Core.Path.{◌≡◌, refl, ap, ◌∙◌}
-use mathlib.Core.List.{List, [], ◌∷◌, map}
-use native.Mathlib.Omega.{arith}
-use lib.ListN.{length, take, drop, replicate, length-drop, length-map}
-use lib.Seq.{drop-cons}
+use mathlib.Core.List.{List, map}
+use lib.ListN.{length, replicate, length-map}
 use lib.LanesLaws.{map-replicate}
 use Rattle.std.proofs.lemmas.List.{map-append}
-use Rattle.wire.specs.Numbers.{number}
-use Rattle.wire.proofs.ListLaws.{part_to_end}
-use Rattle.fingerprint_bodies.specs.Forms.{words_in}
 use Rattle.fingerprint_lists.specs.declared.Span.{Span}
-use Rattle.fingerprint_lists.specs.declared.Words.{Words}
-use Rattle.fingerprint_lists.specs.declared.Groups.{Groups}
-use Rattle.fingerprint_lists.specs.Arrays.{group, span, padded, words_of, groups_of, Part, span_of, spans_of}
-
--- ---- 16-bit numbers
-
-module _ (l : List ℕ) (i : ℕ) where
-  -- v is what `be16` answers of the part `&l[2 * i..]`
-  pub words-next : i < length l / 2 → {v : ℕ} → v ≡ number 256 (take 2 (take (length l - 2 * i) (drop (2 * i) l)))
-      → words_in (drop (2 * i) l) ≡ v ∷ words_in (drop (2 * (i + 1)) l)
-  unfolding words_in
-  words-next h p =
-      let e : 2 * (i + 1) ≡ suc (suc (2 * i)) = omega arith in
-      rw (p, part_to_end l (2 * i), e, drop-cons l (2 * i) 0 (omega arith), drop-cons l (suc (2 * i)) 0 (omega arith))
-
-  pub words-end : length l / 2 ≤ i → words_in (drop (2 * i) l) ≡ []
-  unfolding words_in
-  words-end h = short (drop (2 * i) l) (omega (arith, length-drop (2 * i) l))
-    where
-      short : (bs : List ℕ) → length bs < 2 → words_in bs ≡ []
-      short [] h = refl
-      short (a ∷ []) h = refl
-      short (a ∷ b ∷ bs) h = absurd (omega arith)
+use Rattle.fingerprint_lists.specs.Arrays.{Words, Groups, group, span, padded, words_of, groups_of, Part, span_of, spans_of}
 
 -- ---- the structs
 

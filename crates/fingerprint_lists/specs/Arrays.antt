@@ -3,10 +3,7 @@ use Rattle.std.specs.Prelude.{ℕ, ◌+◌, ◌-◌, List, [], ◌∷◌, ◌++�
 use Rattle.profiles.specs.declared.ExtType.{ExtType}
 use Rattle.profiles.specs.declared.Group.{Group}
 use Rattle.fingerprint_lists.specs.declared.Span.{Span}
-use Rattle.fingerprint_lists.specs.declared.Words.{Words}
-use Rattle.fingerprint_lists.specs.declared.Groups.{Groups}
-use Rattle.fingerprint_lists.specs.declared.Types.{Types}
-use Rattle.fingerprint_lists.specs.declared.Spans.{Spans}
+use Rattle.fingerprint_lists.specs.declared.List as code
 
 abbrev pub ext_type : ℕ → ExtType
 ext_type t = record { 0 = t }
@@ -16,6 +13,19 @@ group g = record { 0 = g }
 
 abbrev pub span : ℕ → ℕ → Span
 span a n = record { start = a; length = n }
+
+-- an array with a count, of each type
+abbrev pub Words : Type 0
+Words = code.List ℕ 64
+
+abbrev pub Groups : Type 0
+Groups = code.List Group 64
+
+abbrev pub Types : Type 0
+Types = code.List ExtType 64
+
+abbrev pub Spans : Type 0
+Spans = code.List Span 16
 
 -- a list in an array of m places; the places past it hold z
 unfoldable pub padded : {A : Type 0} → ℕ → A → List A → List A

@@ -1,3 +1,4 @@
 pub mod MemberLaws
 pub mod OrderLaws
 pub mod SortedLaws
+pub mod WindowLaws

@@ -11,7 +11,7 @@ use Rattle.fingerprint_bodies.specs.Body as value
 use Rattle.fingerprint_bodies.specs.Body.{parameters}
 use Rattle.fingerprint_bodies.specs.Code.{asked}
 use Rattle.fingerprint_bodies.specs.Forms.{one_parameter, transport_parameters, id_of}
-use Rattle.fingerprint_parameters.specs.declared.Parameter.{Parameter}
+use Rattle.fingerprint_bodies.specs.declared.Entry as code
 
 -- ---- One parameter at the front of some bytes
 
@@ -22,13 +22,13 @@ pub record ParameterFound (bs : List ℕ) (id used : ℕ) : Type 0 where
   pub some : 1 ≤ used
   pub within : used ≤ length bs
 
-abbrev pub ParameterAs : std.Option Parameter → List ℕ → Type 0
-ParameterAs (Some p) bs = ParameterFound bs p.id p.used
+abbrev pub ParameterAs : std.Option (code.Entry ℕ) → List ℕ → Type 0
+ParameterAs (Some p) bs = ParameterFound bs p.value p.used
 ParameterAs None bs = one_parameter bs ≡ none
 
 -- the same where id and length are one byte each, and so many bytes are left after them
-unfoldable pub short_of : ℕ → ℕ → ℕ → std.Option Parameter
-short_of left id size = cond (ltb left size) None (Some (record { id = id; used = 2 + size }))
+unfoldable pub short_of : ℕ → ℕ → ℕ → std.Option (code.Entry ℕ)
+short_of left id size = cond (ltb left size) None (Some (record { value = id; used = 2 + size }))
 
 -- ---- Their ids
 

@@ -2,24 +2,33 @@
 // questions 21 to 23 for this body.
 #![tactic(auto)]
 
-ghost use Rattle.std.specs.Prelude.{◌≡◌, ◌≤◌, take};
+ghost use Rattle.std.specs.Prelude.{◌≡◌, ◌%◌, get_or, set, true, false};
 ghost use Rattle.std.proofs.Math.Option.{some};
-ghost use Rattle.wire.specs.Sums.{member, distinct};
-ghost use Rattle.fingerprint_bodies.specs.Entries.{or_empty};
-ghost use Rattle.fingerprint_bodies.specs.Forms.{transport_parameters};
+ghost use Rattle.wire.specs.Sums.{distinct};
+ghost use Rattle.fingerprint_bodies.specs.Entries.{or_empty, shown};
+ghost use Rattle.fingerprint_bodies.specs.Forms.{one_parameter, id_of, transport_parameters};
 ghost use Rattle.fingerprint_parameters.specs.Code.{ParameterAs, short_of, ids_of, Kept, ids_in, AskedIds};
 
+use fingerprint_bodies::{Entries, Entry, Listed};
 use wire::Refusal;
 
-// A parameter at the front of some bytes: its id, and the bytes that it takes.
-#[derive(Clone, Copy, PartialEq, Eq, Debug)]
-pub struct Parameter {
-    pub id: u64,
-    pub used: usize,
+// A parameter, told by its id.
+pub struct Parameter;
+
+impl Listed for Parameter {
+    type Value = u64;
+
+    ghost form = { shown id_of one_parameter };
+
+    fn at_front(rest: &[u8]) -> Option<Entry<u64>> {
+        one_parameter(rest)
+    }
 }
 
+pub type Parameters<'a> = Entries<'a, Parameter>;
+
 // Id and length in varints of any width, and a value of that length.
-fn any_parameter(rest: &[u8]) -> Option<Parameter>
+fn any_parameter(rest: &[u8]) -> Option<Entry<u64>>
     ensures { ParameterAs result rest.now }
 {
     let id = varint::read(rest).ok()?;
@@ -29,15 +38,15 @@ fn any_parameter(rest: &[u8]) -> Option<Parameter>
     if ((rest.len() - head) as u64) < length.value {
         return None;
     }
-    Some(Parameter {
-        id: id.value,
+    Some(Entry {
+        value: id.value,
         used: head + length.value as usize,
     })
 }
 
-// The same, where most parameters have an id and a length of one byte each: these take the short way. The long way is called at two
+// The same, where most parameters have an id and a length of one byte each: these take the short way (docs/DECISIONS.md has its figures). The long way is called at two
 // places, and so is not inlined; what is left is small enough to be.
-pub fn one_parameter(rest: &[u8]) -> Option<Parameter>
+pub fn one_parameter(rest: &[u8]) -> Option<Entry<u64>>
     ensures { ParameterAs result rest.now }
 {
     if rest.len() < 2 {
@@ -52,74 +61,78 @@ pub fn one_parameter(rest: &[u8]) -> Option<Parameter>
 }
 
 // A parameter whose id and length are one byte each, with so many bytes left after them.
-fn short_parameter(left: usize, id: u8, length: u8) -> Option<Parameter>
+fn short_parameter(left: usize, id: u8, length: u8) -> Option<Entry<u64>>
     ensures { result ≡ short_of left id length }
 {
     let length = usize::from(length);
     if left < length {
         return None;
     }
-    Some(Parameter {
-        id: u64::from(id),
+    Some(Entry {
+        value: u64::from(id),
         used: 2 + length,
     })
 }
 
-// Counts the parameters, and keeps the ids of the first, as many as there is room for; none where one is cut.
+// Counts the parameters, and keeps the ids of the first, as many as there is room for; none where one is cut. By `next` and a count, since
+// both what is left over and how many there were is asked for.
 fn read_ids(body: &[u8], ids: &mut [u64]) -> Option<usize>
     ensures { Kept (ids_of body.now) result ids.old ids.new }
 {
-    let n = body.len();
     let room = ids.len();
-    let mut at = 0;
+    // Each is counted, also past the room, and what is left over is asked for after the last.
+    let mut parameters = Parameters::of(body);
     let mut k = 0;
-    // A place and not an item: each step takes as many bytes as the parameter has.
-    while at < n {
-        let parameter = one_parameter(&body[at..])?;
+    while let Some(id) = parameters.next() {
         if k < room {
-            ids[k] = parameter.id;
+            ids[k] = id;
         }
-        at += parameter.used;
         k += 1;
     }
-    Some(k)
+    if parameters.rest.is_empty() {
+        return Some(k);
+    }
+    None
 }
 
-// No two of the first n are equal. An id is looked up among those before it only where one of them leaves the same rest by 64.
-fn all_new(ids: &[u64; 64], n: usize) -> bool
-    requires { n ≤ 64 }
-    ensures { result ≡ distinct (take n ids.now) }
+// Which rests by 64 numbers have left so far: a number is looked up among those before it only where one of them left the same rest.
+#[derive(Clone, Copy)]
+pub struct Marks {
+    pub rests: [bool; 64],
+}
+
+impl Marks {
+    pub fn has(&self, number: u64) -> bool
+        ensures { result ≡ get_or self.now.rests (number % 64) false }
+    {
+        self.rests[rest_of(number)]
+    }
+
+    pub fn add(&mut self, number: u64)
+        ensures { self.new.rests ≡ set self.old.rests (number % 64) true }
+    {
+        self.rests[rest_of(number)] = true;
+    }
+}
+
+fn rest_of(number: u64) -> usize
+    ensures { result ≡ number % 64 }
 {
-    let mut marks = [false; 64];
-    for i in 0..n {
-        let id = ids[i];
-        let k = (id % 64) as usize;
-        if marks[k] && ids[..i].contains(&id) {
+    (number % 64) as usize
+}
+
+// No two ids are equal.
+fn all_new(ids: &[u64]) -> bool
+    ensures { result ≡ distinct ids.now }
+{
+    let mut marks = Marks { rests: [false; 64] };
+    for (i, id) in ids.iter().enumerate() {
+        if marks.has(*id) && ids[..i].contains(id) {
             return false;
         }
-        marks[k] = true;
+        marks.add(*id);
     }
     true
-}
-
-// The id stands among the parameters.
-fn has_id(list: &[u8], id: u64) -> bool
-    requires { transport_parameters list.now ≡ some (or_empty (transport_parameters list.now)) }
-    ensures { result ≡ member id (ids_in list.now) }
-{
-    let n = list.len();
-    let mut at = 0;
-    // A place and not an item: each step takes as many bytes as the parameter has.
-    while at < n {
-        let Some(parameter) = one_parameter(&list[at..]) else {
-            return false;
-        };
-        if id == parameter.id {
-            return true;
-        }
-        at += parameter.used;
-    }
-    false
 }
 
 // No id stands twice in the body: each is looked for among those after it.
@@ -127,15 +140,9 @@ fn each_among_later(body: &[u8]) -> bool
     requires { transport_parameters body.now ≡ some (or_empty (transport_parameters body.now)) }
     ensures { result ≡ distinct (ids_in body.now) }
 {
-    let n = body.len();
-    let mut at = 0;
-    // A place and not an item: each step takes as many bytes as the parameter has.
-    while at < n {
-        let Some(parameter) = one_parameter(&body[at..]) else {
-            return false;
-        };
-        at += parameter.used;
-        if has_id(&body[at..], parameter.id) {
+    let mut parameters = Parameters::of(body);
+    while let Some(id) = parameters.next() {
+        if Parameters::of(parameters.rest).any(|later| later == id) {
             return false;
         }
     }
@@ -165,7 +172,7 @@ pub fn ask_parameters(body: &[u8], ids: &mut [u64; 64]) -> Result<usize, Refusal
 {
     let k = read_ids(body, ids).ok_or(Refusal::ExtensionMalformed)?;
     if k <= 64 {
-        if all_new(ids, k) {
+        if all_new(&ids[..k]) {
             return Ok(k);
         }
         return Err(Refusal::ParameterTwice);

@@ -1,6 +1,6 @@
 -- Entries of a body passed over one by one, as the code does it. Assumes nothing.
 use Prim.Native.Nat.{ℕ, zero, suc, ◌+◌, ◌-◌, ◌≤◌, ◌<◌}
-use mathlib.Core.Path.{◌≡◌, refl, sym, ap, ◌∙◌}
+use mathlib.Core.Path.{◌≡◌, refl, sym, ap, ◌∙◌, subst}
 use mathlib.Core.Bool.{true, false}
 use mathlib.Core.List.{List, []}
 use mathlib.Core.Option.{Option, none, some}
@@ -13,12 +13,15 @@ use Rattle.varint.specs.Varint.{class_at, read_of}
 use Rattle.fingerprint_bodies.specs.Entries.{Entry, entry, bind, vector_at, number_at}
 use Rattle.fingerprint_bodies.specs.Body.{Kind, name, groups, algorithms, protocols, versions, shares, parameters, other}
 use Rattle.fingerprint_bodies.specs.Forms.{one_name, one_share, varint_at, one_parameter}
-use Rattle.fingerprint_bodies.specs.Code.{is_whole, NameFound, ShareFound}
+use Rattle.fingerprint_bodies.specs.declared.Prefix.{Prefix}
+use Rattle.fingerprint_bodies.specs.declared.Prefix.TheVariants as one
+use Rattle.fingerprint_bodies.specs.Code.{prefix_bytes, is_whole, NameFound, ShareFound}
 use Rattle.fingerprint_parameters.specs.Code.{ParameterFound}
 use Rattle.fingerprint.specs.Code.{meant}
 use Rattle.fingerprint.specs.declared.walk.Kind as code
 use Rattle.fingerprint_stops.specs.Stops.{size_of, word_size, entry_size, passed, list_at, broken, most, past}
-use Rattle.fingerprint_stops.proofs.PlaceLaws.{entry-within}
+use Rattle.std.specs.Prelude as std
+use Rattle.fingerprint_stops.specs.Code.{SizeAs}
 
 -- ---- one entry
 
@@ -61,17 +64,17 @@ module _ (bs : List ℕ) where
   unfolding entry_size
   parameter-none e = size-cut (one_parameter bs) e
 
-  pub groups-size : (r : ℕ) → r ≡ word_size bs → r ≡ entry_size groups bs
+  pub groups-size : word_size bs ≡ entry_size groups bs
   unfolding entry_size
-  groups-size r e = e
+  groups-size = refl
 
-  pub algorithms-size : (r : ℕ) → r ≡ word_size bs → r ≡ entry_size algorithms bs
+  pub algorithms-size : word_size bs ≡ entry_size algorithms bs
   unfolding entry_size
-  algorithms-size r e = e
+  algorithms-size = refl
 
-  pub versions-size : (r : ℕ) → r ≡ word_size bs → r ≡ entry_size versions bs
+  pub versions-size : word_size bs ≡ entry_size versions bs
   unfolding entry_size
-  versions-size r e = e
+  versions-size = refl
 
   pub server-name-size : 0 ≡ entry_size name bs
   unfolding entry_size
@@ -82,8 +85,8 @@ module _ (bs : List ℕ) where
   other-size = refl
 
   -- by the kind that the code names
-  pub size-at : (c : code.Kind) (r : ℕ) (k : Kind) → meant c ≡ k → r ≡ entry_size k bs → (r ≡ entry_size (meant c) bs) × (r ≤ length bs)
-  size-at c r k e q = (q ∙ ap (λ (k : Kind). entry_size k bs) (sym e), omega (arith, q, entry-within k bs))
+  pub size-as : (c : code.Kind) (r : std.Option ℕ) (k : Kind) (n : ℕ) → meant c ≡ k → n ≡ entry_size k bs → SizeAs r n → SizeAs r (entry_size (meant c) bs)
+  size-as c r k n e q s = subst (λ (m : ℕ). SizeAs r m) (q ∙ ap (λ (k : Kind). entry_size k bs) (sym e)) s
 
 -- ---- n entries, of which k were passed over and the next is at a place
 
@@ -124,6 +127,23 @@ passed-nil : (k : Kind) (n : ℕ) → passed k n [] ≡ 0
 unfolding passed
 passed-nil k zero = refl
 passed-nil k (suc n) = rw (entry-nil k)
+
+-- ---- what stands before a list
+
+pub prefix-some : (p : Prefix) → 1 ≤ prefix_bytes p
+prefix-some one.OneByte = omega arith
+prefix-some one.TwoBytes = omega arith
+
+pub list_at-small : (k : Kind) → list_at k ≤ 2
+unfolding list_at
+list_at-small name = omega arith
+list_at-small groups = omega arith
+list_at-small algorithms = omega arith
+list_at-small protocols = omega arith
+list_at-small versions = omega arith
+list_at-small shares = omega arith
+list_at-small parameters = omega arith
+list_at-small other = omega arith
 
 -- ---- a body; its list begins after `width` bytes
 

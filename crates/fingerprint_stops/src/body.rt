@@ -4,65 +4,58 @@ ghost use Rattle.wire.specs.Sums.{member};
 ghost use Rattle.fingerprint_bodies.specs.Body.{kind};
 ghost use Rattle.fingerprint.specs.Code.{meant};
 ghost use Rattle.fingerprint_stops.specs.Stops.{word_size, entry_size, passed, list_at, broken, most, past, repeated_at, body_place};
-ghost use Rattle.fingerprint_stops.specs.Code.{first_ids};
+ghost use Rattle.fingerprint_stops.specs.Code.{SizeAs, bytes_before, first_ids};
 
 use fingerprint::walk::{Kind, ask_body};
-use fingerprint_bodies::{is_whole, one_name, one_share};
-use fingerprint_parameters::one_parameter;
+use fingerprint_bodies::{Prefix, is_whole, one_name, one_share};
+use fingerprint_parameters::{Parameters, one_parameter};
 use wire::Refusal;
 
-// How many bytes the entry at the front takes, by its kind; 0 where no entry is whole.
-fn entry_size(kind: Kind, rest: &[u8]) -> usize
-    ensures { (result ≡ entry_size (meant kind) rest.now) × (result ≤ length rest.now) }
+// How many bytes the entry at the front takes, by its kind; none where no entry is whole.
+fn entry_size(kind: Kind, rest: &[u8]) -> Option<usize>
+    ensures { SizeAs result (entry_size (meant kind) rest.now) }
 {
     match kind {
         Kind::Groups | Kind::Algorithms | Kind::Versions => word_size(rest),
-        Kind::Protocols => match one_name(rest) {
-            Some(length) => 1 + length,
-            None => 0,
-        },
-        Kind::Shares => match one_share(rest) {
-            Some(share) => share.used,
-            None => 0,
-        },
-        Kind::Parameters => match one_parameter(rest) {
-            Some(parameter) => parameter.used,
-            None => 0,
-        },
-        Kind::Name | Kind::Other => 0,
+        Kind::Protocols => Some(1 + one_name(rest)?),
+        Kind::Shares => Some(one_share(rest)?.used),
+        Kind::Parameters => Some(one_parameter(rest)?.used),
+        Kind::Name | Kind::Other => None,
     }
 }
 
-fn word_size(rest: &[u8]) -> usize
-    ensures { result ≡ word_size rest.now }
+fn word_size(rest: &[u8]) -> Option<usize>
+    ensures { SizeAs result (word_size rest.now) }
 {
-    if rest.len() < 2 { 0 } else { 2 }
+    if rest.len() < 2 { None } else { Some(2) }
 }
 
-// The place after n entries, or that of the first that is not whole.
+// The place after n entries, or that of the first that is not whole. By places and sizes: `Entries` goes over one kind of entry, and the
+// kind is known only when this runs, so the loop would stand in a function for each kind and a `match` round the four.
 fn passed_over(kind: Kind, list: &[u8], n: usize) -> usize
     ensures { (result ≡ passed (meant kind) n list.now) × (result ≤ length list.now) }
 {
     let mut at = 0;
     for _k in 0..n {
-        let size = entry_size(kind, &list[at..]);
-        if size == 0 {
+        let Some(size) = entry_size(kind, &list[at..]) else {
             return at;
-        }
+        };
         at += size;
     }
     at
 }
 
-// The bytes of the length before a body's list, by its kind; 0 where there is none.
+// What stands before a body's list, by its kind: the list's length, or nothing.
 #[tactic(auto, unfolding(crate::specs::Stops::list_at))]
-fn list_at(kind: Kind) -> usize
-    ensures { (result ≡ list_at (meant kind)) × (result ≤ 2) }
+fn list_prefix(kind: Kind) -> Option<Prefix>
+    ensures { bytes_before result ≡ list_at (meant kind) }
 {
     match kind {
-        Kind::Name | Kind::Groups | Kind::Algorithms | Kind::Protocols | Kind::Shares => 2,
-        Kind::Versions => 1,
-        Kind::Parameters | Kind::Other => 0,
+        Kind::Name | Kind::Groups | Kind::Algorithms | Kind::Protocols | Kind::Shares => Some(
+            Prefix::TwoBytes,
+        ),
+        Kind::Versions => Some(Prefix::OneByte),
+        Kind::Parameters | Kind::Other => None,
     }
 }
 
@@ -70,11 +63,11 @@ fn list_at(kind: Kind) -> usize
 fn broken_at(kind: Kind, body: &[u8]) -> usize
     ensures { (result ≡ broken (meant kind) body.now) × (result ≤ length body.now) }
 {
-    let width = list_at(kind);
-    if width == 0 {
+    let Some(prefix) = list_prefix(kind) else {
         return passed_over(kind, body, body.len());
-    }
-    if is_whole(body, width) {
+    };
+    let width = prefix.bytes();
+    if is_whole(body, prefix) {
         if width < body.len() {
             return width + passed_over(kind, &body[width..], body.len());
         }
@@ -97,7 +90,10 @@ fn most_at(kind: Kind) -> usize
 fn past_count(kind: Kind, body: &[u8]) -> usize
     ensures { (result ≡ past (meant kind) body.now) × (result ≤ 2 + length body.now) }
 {
-    let width = list_at(kind);
+    let width = match list_prefix(kind) {
+        Some(prefix) => prefix.bytes(),
+        None => 0,
+    };
     if body.len() < width {
         return width;
     }
@@ -108,34 +104,27 @@ fn past_count(kind: Kind, body: &[u8]) -> usize
 fn among_first(body: &[u8], k: usize, id: u64) -> bool
     ensures { result ≡ member id (first_ids k body.now) }
 {
-    let mut at = 0;
-    for _i in 0..k {
-        let Some(other) = one_parameter(&body[at..]) else {
-            return false;
-        };
-        if id == other.id {
+    for other in Parameters::of(body).take(k) {
+        if other == id {
             return true;
         }
-        at += other.used;
     }
     false
 }
 
-// The first parameter whose id is among those before it.
+// The first parameter whose id is among those before it. Place and number of a parameter are the answer and what `among_first` asks for, and
+// not indices: parameters are gone over by their iterator.
 fn repeated_at(body: &[u8]) -> usize
     ensures { (result ≡ repeated_at body.now) × (result ≤ length body.now) }
 {
+    let mut parameters = Parameters::of(body);
     let mut at = 0;
     let mut k = 0;
-    // A place and not an item: each step takes as many bytes as the entry has.
-    while at < body.len() {
-        let Some(parameter) = one_parameter(&body[at..]) else {
-            return at;
-        };
-        if among_first(body, k, parameter.id) {
+    while let Some(id) = parameters.next() {
+        if among_first(body, k, id) {
             return at;
         }
-        at += parameter.used;
+        at = body.len() - parameters.rest.len();
         k += 1;
     }
     at
@@ -149,7 +138,7 @@ pub fn in_body(t: u16, body: &[u8]) -> usize
     if body.is_empty() {
         return 0;
     }
-    let kind = Kind::of(t);
+    let kind = Kind::from(t);
     let mut ids = [0u64; 64];
     let Err(refusal) = ask_body(kind, body, &mut ids) else {
         return 0;

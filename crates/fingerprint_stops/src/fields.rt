@@ -1,4 +1,6 @@
-// The place of a field before the extensions: 16 to 19.
+// The place of a field before the extensions: 16 to 19. It goes over the fields that crates/fingerprint/src/head.rt reads. One walk for both
+// would be no plainer: each of its answers would carry a place that the reader throws away, and the reader's contracts would speak of places.
+// That a place lies in the hello is what the caller's own test gives.
 ghost use Rattle.std.specs.Prelude.{◌≤◌, ◌≡◌, length, drop};
 ghost use Rattle.wire.specs.Refusals.{question};
 ghost use Rattle.fingerprint_stops.specs.Stops.{compression_stop, suites_stop, session_stop, field_stop, head_place};

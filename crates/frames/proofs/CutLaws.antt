@@ -4,7 +4,7 @@ use mathlib.Core.Path.{◌≡◌, refl, sym, ap, ◌∙◌}
 use mathlib.Core.Logic.{◌⊎◌, inl, inr, ⊎_elim}
 use mathlib.Core.List.{List, [], ◌∷◌, ◌++◌, append-nil}
 use native.Mathlib.Omega.{arith}
-use lib.ListN.{length, take, drop, set, length-append, length-take, length-drop}
+use lib.ListN.{length, take, drop, set, length-append, length-take, length-drop, drop_of_length-le}
 use lib.Seq.{take_all, drop-drop, take_at, drop_at}
 use lib.Dec.{leb, lit≤}
 use borrow.Author.Tests.{le-leb, lt-leb}
@@ -126,100 +126,82 @@ frames-most : (c : ℕ) (hello : List ℕ) → 1 ≤ c → length hello ≤ limi
 unfolding frames_of cut
 frames-most c hello k h = omega (arith, cut_most (length hello) c 0 hello k)
 
--- ---- the loops: n bytes of the whole are done, and what is still to be cut makes the others
+-- ---- the loops: i pieces are done, which make n bytes of the whole, and what is still to be cut makes the others
 
-pub record Left (c : ℕ) (hello : List ℕ) (at n : ℕ) : Type 0 where
-  pub within : at ≤ length hello
+pub record Left (c : ℕ) (hello : List ℕ) (i n : ℕ) : Type 0 where
   pub done : n ≤ length (frames_of c hello)
   pub fuel : ℕ
-  pub enough : length hello - at ≤ fuel
-  pub rest : drop n (frames_of c hello) ≡ encode_all (cut_from fuel c at (drop at hello))
+  pub enough : length hello ≤ i * c + fuel
+  pub rest : drop n (frames_of c hello) ≡ encode_all (cut_from fuel c (i * c) (drop (i * c) hello))
 
 pub starts : (c : ℕ) (hello : List ℕ) → Left c hello 0 0
 unfolding frames_of cut
-starts c hello = record { within = zero-le; done = zero-le; fuel = length hello; enough = omega arith; rest = refl }
+starts c hello =
+    let z : 0 * c ≡ 0 = omega arith in
+    record { done = zero-le; fuel = length hello; enough = omega arith; rest = rw z refl }
 
-pub ends : {c : ℕ} {hello : List ℕ} {at n : ℕ} → Left c hello at n → length hello ≤ at → n ≡ length (frames_of c hello)
-ends {c} {hello} {at} {n} l h =
-    let none : encode_all (cut_from l.fuel c at (drop at hello)) ≡ [] = none_left l.fuel c at (drop at hello) (omega (arith, length-drop at hello)) in
+pub ends : {c : ℕ} {hello : List ℕ} {i n : ℕ} → Left c hello i n → length (drop (i * c) hello) ≤ 0 → n ≡ length (frames_of c hello)
+ends {c} {hello} {i} {n} l h =
+    let none : encode_all (cut_from l.fuel c (i * c) (drop (i * c) hello)) ≡ [] = none_left l.fuel c (i * c) (drop (i * c) hello) h in
     omega (arith, l.done, length-drop n (frames_of c hello), ap length (l.rest ∙ none))
 
--- the frame of the bytes from a place to another
-abbrev pub part_frame : List ℕ → ℕ → ℕ → List ℕ
-part_frame hello at e = frame_at at (take (e - at) (drop at hello))
-
--- the next frame, and what is left after it
-pub record Turn (c : ℕ) (hello : List ℕ) (at e n : ℕ) : Type 0 where
-  pub within : e ≤ length hello
+-- the next piece, as the iterator over the hello's pieces hands it out, and what is left after it
+pub record Next (c : ℕ) (hello : List ℕ) (i n : ℕ) (piece later : List ℕ) : Type 0 where
   pub done : n ≤ length (frames_of c hello)
   pub fuel : ℕ
-  pub enough : length hello - e ≤ fuel
-  pub rest : drop n (frames_of c hello) ≡ part_frame hello at e ++ encode_all (cut_from fuel c e (drop e hello))
+  pub enough : length hello ≤ (i + 1) * c + fuel
+  pub rest : drop n (frames_of c hello) ≡ frame_at (i * c) piece ++ encode_all (cut_from fuel c ((i + 1) * c) (drop ((i + 1) * c) hello))
+  pub follows : later ≡ drop ((i + 1) * c) hello
+  pub small : i * c + length piece ≤ length hello
 
--- the data that begin at a place, and where the next begin: both as the code has them
-module _ (c : ℕ) (hello : List ℕ) (at e : ℕ) (d : e ≡ min (at + c) (length hello)) where
-  data-part : at ≤ length hello → take c (drop at hello) ≡ take (e - at) (drop at hello)
-  data-part w =
-      ⊎_elim
-      (λ p.
-      let z : e ≡ length hello = omega arith in
-      let long : length (drop at hello) ≤ c = omega (arith, length-drop at hello) in
-      let wide : length (drop at hello) ≤ e - at = omega (arith, length-drop at hello) in
-      take_all c (drop at hello) long ∙ sym (take_all (e - at) (drop at hello) wide))
-      (λ q. let z : e - at ≡ c = omega arith in rw z)
-      (lt-or-le (length hello) (at + c))
+-- the first c elements of a list, or all of them, and what comes after them
+front-of : (c : ℕ) (piece later rest : List ℕ) → rest ≡ piece ++ later → length piece ≡ min c (length rest) → (take c rest ≡ piece) × (drop c rest ≡ later)
+front-of c piece later rest s w =
+    ⊎_elim
+    (λ p.
+    let none : length later ≤ 0 = omega (arith, ap length s, length-append piece later) in
+    let all : later ≡ [] = sym (take_all 0 later none) in
+    let is : rest ≡ piece = s ∙ rw (all, append-nil) in
+    (take_all c rest (omega arith) ∙ is, drop_of_length-le rest (omega arith) ∙ sym all))
+    (λ q.
+    let n : length piece ≡ c = omega arith in
+    (rw s (take_at piece later c n), rw s (drop_at piece later c n)))
+    (lt-or-le (length rest) c)
 
-  pub data-small : length hello ≤ limit → length (take (e - at) (drop at hello)) ≤ limit
-  data-small s = omega (arith, length-take (e - at) (drop at hello), length-drop at hello)
+pub next-piece : (c : ℕ) (hello : List ℕ) (i n size : ℕ) (rest piece later : List ℕ) → Left c hello i n → 1 ≤ c → size ≡ c → rest ≡ drop (i * c) hello
+    → rest ≡ piece ++ later → length piece ≡ min size (length rest) → 0 < length rest → Next c hello i n piece later
+next-piece c hello i n size rest piece later l k z r s w some = go l.fuel l.enough l.rest
+  where
+    at : ℕ
+    at = i * c
 
-  next-left : (n : ℕ) → encode_all (cut_from n c (at + c) (drop c (drop at hello))) ≡ encode_all (cut_from n c e (drop e hello))
-  next-left n =
-      ⊎_elim
-      (λ p.
-      none_left n c (at + c) (drop c (drop at hello)) (omega (arith, length-drop c (drop at hello), length-drop at hello))
-      ∙ sym (none_left n c e (drop e hello) (omega (arith, length-drop e hello))))
-      (λ q. let z : e ≡ at + c = omega arith in rw (z, drop-drop))
-      (lt-or-le (length hello) (at + c))
+    long : length rest ≡ length hello - at
+    long = ap length r ∙ length-drop at hello
 
-  pub turn : {n : ℕ} → Left c hello at n → at < length hello → 1 ≤ c → Turn c hello at e n
-  turn {n} l h k = go l.fuel l.enough l.rest
-    where
-      go : (f : ℕ) → length hello - at ≤ f → drop n (frames_of c hello) ≡ encode_all (cut_from f c at (drop at hello)) → Turn c hello at e n
-      go zero m r = absurd (omega arith)
-      go (suc f) m r =
-          record {
-            within = omega arith;
-            done = l.done;
-            fuel = f;
-            enough = omega arith;
-            rest = r ∙ cut-next f c at (drop at hello) (omega (arith, length-drop at hello)) ∙ rw (data-part l.within, next-left f);
-          }
+    split : (take c (drop at hello) ≡ piece) × (drop c (drop at hello) ≡ later)
+    split = front-of c piece later (drop at hello) (sym r ∙ s) (rw (z, r) at w)
 
--- the next piece, as the iterator over the hello's pieces hands it out, and what is left after it
-pub record Next (c : ℕ) (hello : List ℕ) (at n : ℕ) (piece later : List ℕ) : Type 0 where
-  pub turn : Turn c hello at (at + length piece) n
-  pub is : piece ≡ take (at + length piece - at) (drop at hello)
-  pub follows : later ≡ drop (at + length piece) hello
+    past : at + c ≡ (i + 1) * c
+    past = omega arith
 
-pub next-piece : (c : ℕ) (hello : List ℕ) (at n size : ℕ) (rest piece later : List ℕ) → Left c hello at n → 1 ≤ c → size ≡ c → rest ≡ drop at hello
-    → rest ≡ piece ++ later → length piece ≡ min size (length rest) → 0 < length rest → Next c hello at n piece later
-next-piece c hello at n size rest piece later l k z r s w some =
-    let long : length rest ≡ length hello - at = ap length r ∙ length-drop at hello in
-    let width : at + length piece - at ≡ length piece = omega arith in
-    let whole : piece ++ later ≡ drop at hello = sym s ∙ r in
-    record {
-      turn = turn c hello at (at + length piece) (omega (arith, w, long, l.within)) l (omega (arith, some, long)) k;
-      is = rw (width, ← whole) (sym (take_at piece later (length piece) refl));
-      follows = rw (← drop-drop, ← whole) (sym (drop_at piece later (length piece) refl));
-    }
+    go : (f : ℕ) → length hello ≤ at + f → drop n (frames_of c hello) ≡ encode_all (cut_from f c at (drop at hello)) → Next c hello i n piece later
+    go zero m e = absurd (omega (arith, some, long))
+    go (suc f) m e =
+        record {
+          done = l.done;
+          fuel = f;
+          enough = omega (arith, past, m, k);
+          rest = e ∙ cut-next f c at (drop at hello) (rw r at some) ∙ rw (split.0, drop-drop, past);
+          follows = sym split.1 ∙ rw (drop-drop, past);
+          small = omega (arith, some, long, w);
+        }
 
-module _ {c : ℕ} {hello : List ℕ} {at e n : ℕ} (t : Turn c hello at e n) where
-  pub goes_on : Left c hello e (n + length (part_frame hello at e))
+module _ {c : ℕ} {hello : List ℕ} {i n : ℕ} {piece later : List ℕ} (t : Next c hello i n piece later) where
+  pub goes_on : Left c hello (i + 1) (n + length (frame_at (i * c) piece))
   goes_on =
       let whole = frames_of c hello in
-      let frame = part_frame hello at e in
+      let frame = frame_at (i * c) piece in
       record {
-        within = t.within;
         done = omega (arith, piece-length whole frame _ n t.done t.rest);
         fuel = t.fuel;
         enough = t.enough;
@@ -227,18 +209,18 @@ module _ {c : ℕ} {hello : List ℕ} {at e n : ℕ} (t : Turn c hello at e n) w
       }
 
   -- so the next sum does not overflow
-  pub next_small : 1 ≤ c → length hello ≤ limit → n + length (part_frame hello at e) ≤ 18 * limit
+  pub next_small : 1 ≤ c → length hello ≤ limit → n + length (frame_at (i * c) piece) ≤ 18 * limit
   next_small k s = omega (arith, goes_on.done, frames-most c hello k s)
 
   -- the next frame has room in the output, and then it stands there
   module _ {old out : List ℕ} (w : Writing (frames_of c hello) (drop n (frames_of c hello)) old out n) where
-    pub frame-room : length (part_frame hello at e) ≤ length (lent_from n out)
-    frame-room = next-room (part_frame hello at e) _ (restated w t.rest) refl
+    pub frame-room : length (frame_at (i * c) piece) ≤ length (lent_from n out)
+    frame-room = next-room (frame_at (i * c) piece) _ (restated w t.rest) refl
 
     pub frame-written :
-        {part : List ℕ} {m : ℕ} → Put (part_frame hello at e) m (lent_from n out) part
+        {part : List ℕ} {m : ℕ} → Put (frame_at (i * c) piece) m (lent_from n out) part
         → Writing (frames_of c hello) (drop (n + m) (frames_of c hello)) old (back_from n out part) (n + m)
-    frame-written p = restated (writes (part_frame hello at e) _ (restated w t.rest) p) refl
+    frame-written p = restated (writes (frame_at (i * c) piece) _ (restated w t.rest) p) refl
 
 -- ---- the answers, by what the code has tested
 

@@ -18,3 +18,4 @@ pub mod RoomLaws
 pub mod CutLaws
 pub mod CutJoined
 pub mod Results
+pub mod BlockLaws

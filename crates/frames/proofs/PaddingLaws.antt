@@ -1,5 +1,5 @@
 -- Bytes 00 at the front are PADDING frames, which place nothing: passed over together or one by one. Assumes nothing.
-use Prim.Native.Nat.{ℕ, zero, suc, ◌+◌, ◌-◌, ◌≤◌, ◌<◌}
+use Prim.Native.Nat.{ℕ, zero, suc, zero-le, ◌+◌, ◌-◌, ◌≤◌, ◌<◌}
 use mathlib.Core.Path.{◌≡◌, refl, sym, ap, ◌∙◌}
 use mathlib.Core.Bool.{Bool, true, false, not, cond, false≢true}
 use mathlib.Core.Logic.{⊎_elim}
@@ -21,6 +21,10 @@ use Rattle.frames.specs.Buffers.{zero_at, zeros, Padding}
 use Rattle.frames.proofs.EachLaws.{each_at}
 use Rattle.frames.proofs.RunLaws.{Running, goes_on}
 use Rattle.frames.proofs.JoinLaws.{Laying}
+
+-- no byte
+pub padding_none : (bs : List ℕ) → Padding 0 bs
+padding_none bs = record { within = zero-le; zero = λ i h. absurd (omega arith) }
 
 -- a block more, and a byte more
 pub padding-more : (at n : ℕ) (bs : List ℕ) → Padding at bs → at + n ≤ length bs → zeros (take n (drop at bs)) ≡ true → Padding (at + n) bs

@@ -1,24 +1,21 @@
 -- What `join_onto` and its two readings promise, by what its code has tested and what `join_all` promises. Assumes nothing.
 use Prim.Native.Nat.{ℕ, ◌≤◌, ◌<◌, ◌-◌}
-use mathlib.Core.Path.{◌≡◌, refl, sym, ap, ◌∙◌}
+use mathlib.Core.Path.{◌≡◌, refl, sym}
 use mathlib.Core.Bool.{true, false, false≢true}
 use mathlib.Core.List.{List}
 use native.Mathlib.Omega.{arith}
 use lib.ListN.{length, replicate}
 use lib.Dec.{leb}
 use borrow.Author.Tests.{le-leb, lt-leb, leb-true}
-use Rattle.wire.specs.Answer.{Answer, result, refused, told}
-use Rattle.wire.proofs.AnswerLaws.{apart, same-ok}
+use Rattle.wire.specs.Answer.{Answer, result, refused}
+use Rattle.wire.proofs.AnswerLaws.{apart}
 use Rattle.wire.proofs.SumLaws.{and_left, and_right}
 use Rattle.std.specs.Prelude.{Result, Ok, Err}
-use Rattle.std.specs.Prelude as std
-use Rattle.std.specs.Result.{is_err, result_err, MatchResult, IsErrAnd}
+use Rattle.std.specs.Result.{is_err}
 use Rattle.wire.specs.declared.Stop.{Stop}
-use Rattle.wire.specs.declared.refusals.Refusal.{Refusal}
 use Rattle.wire.specs.declared.refusals.Refusal.TheVariants as no
-use Rattle.wire.specs.Refusals.{question, answer_of}
-use Rattle.frames.specs.Join.{limit, join, roomy, join_of, padded, out_after, marks_after, Joins}
-use Rattle.frames.specs.Stops.{joiner_stops, StopsAt}
+use Rattle.frames.specs.Join.{limit, join, roomy, join_of, padded, out_after, marks_after}
+use Rattle.frames.specs.Stops.{joiner_stops}
 use Rattle.frames.specs.Buffers.{Joining, Walks}
 
 -- ---- question 10
@@ -93,21 +90,3 @@ module _ {frames out marks : List ℕ} where
         → Walks frames out marks r out' marks'
     walked-err (Ok e) t j a b o m = absurd (false≢true (sym t))
     walked-err (Err s) t j a b o m = joined-none j a b o m
-
--- ---- the two readings; what a joiner's answer tells is what it says in numbers, zeros at a refusal
-
-module _ {frames out marks out' marks' : List ℕ} where
-  pub joins : (r : Result ℕ Stop) (q : Result ℕ Refusal) → Walks frames out marks r out' marks'
-      → MatchResult r (λ e. q ≡ Ok e) (λ s. IsErrAnd q (λ k. k ≡ s.refusal)) → Joins frames out marks q out' marks'
-  joins (Ok e) (Ok n) w m =
-      let same : e ≡ n = same-ok (sym m) in
-      record { is = ap result (sym same) ∙ w.is; tells = ap (told 0) (ap result (sym same) ∙ w.is); output = w.output; marked = w.marked; bounds = rw same at w.bounds }
-  joins (Ok e) (Err k) w m = absurd (apart (ap answer_of m))
-  joins (Err s) (Ok n) w m = absurd m
-  joins (Err s) (Err k) w m =
-      let e = ap (λ (x : Refusal). refused (question x)) m ∙ w.is in
-      record { is = e; tells = ap (told 0) e; output = w.output; marked = w.marked; bounds = tt }
-
-  pub stops : (r : Result ℕ Stop) (s : std.Option Stop) → Walks frames out marks r out' marks' → s ≡ result_err r → StopsAt frames out marks s out' marks'
-  stops (Ok e) s w m = rw m (record { is = w.stop; output = w.output; marked = w.marked; bounds = tt })
-  stops (Err k) s w m = rw m (record { is = w.stop; output = w.output; marked = w.marked; bounds = w.bounds })

@@ -9,7 +9,8 @@ use crate::joining::LIMIT;
 use varint::{put_varint, varint_length};
 use wire::Refusal;
 
-// How many bytes the frame of some data takes.
+// How many bytes the frame of some data takes. Here and in `put_frame` place and length are at most `limit`, and so have a varint: a type
+// for such numbers would be taken apart at every sum and every index.
 fn frame_length(offset: usize, bytes: &[u8]) -> usize
     requires { (offset ≤ limit) × (length bytes.now ≤ limit) }
     ensures { (result ≡ length (encode (short_frame (record { offset = offset; bytes = bytes.now })))) × (result ≤ 17 + length bytes.now) }
@@ -17,16 +18,14 @@ fn frame_length(offset: usize, bytes: &[u8]) -> usize
     1 + varint_length(offset as u64) + varint_length(bytes.len() as u64) + bytes.len()
 }
 
-// How many bytes all frames take.
+// How many bytes all frames take. Each piece but the last has c bytes, so the number of a piece gives its place.
 fn frames_length(c: usize, hello: &[u8]) -> usize
     requires { (1 ≤ c) × (c ≤ limit) × (length hello.now ≤ limit) }
     ensures { result ≡ length (frames_of c hello.now) }
 {
-    let mut at = 0;
     let mut n = 0;
-    for piece in hello.chunks(c) {
-        n += frame_length(at, piece);
-        at += piece.len();
+    for (i, piece) in hello.chunks(c).enumerate() {
+        n += frame_length(i * c, piece);
     }
     n
 }
@@ -47,11 +46,9 @@ fn put_frames(out: &mut [u8], c: usize, hello: &[u8]) -> usize
     requires { (1 ≤ c) × (c ≤ limit) × (length hello.now ≤ limit) × (length (frames_of c hello.now) ≤ length out.old) }
     ensures { Put (frames_of c hello.now) result out.old out.new }
 {
-    let mut at = 0;
     let mut n = 0;
-    for piece in hello.chunks(c) {
-        n += put_frame(&mut out[n..], at, piece);
-        at += piece.len();
+    for (i, piece) in hello.chunks(c).enumerate() {
+        n += put_frame(&mut out[n..], i * c, piece);
     }
     n
 }

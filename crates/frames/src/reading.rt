@@ -4,7 +4,7 @@ ghost use Rattle.frames.specs.Read.{FrameFound, CryptoFound};
 
 use wire::Refusal;
 
-// A CRYPTO frame as it lies in the input: the place of its data in the stream, and in the input.
+// A CRYPTO frame as it lies in the input: the place of its data in the stream, and in the input. No slice: a listing says where it ends.
 #[derive(Clone, Copy, PartialEq, Eq, Debug)]
 pub struct CryptoFrame {
     pub offset: u64,
@@ -26,6 +26,7 @@ pub fn read_frame(input: &[u8]) -> Result<Frame, Refusal>
     if input.is_empty() {
         return Err(Refusal::FrameCut);
     }
+    // Numbers of RFC 9000, which are read here and nowhere else: an enum of the types would be made from them by the same lines.
     match input[0] {
         0x00 => Ok(Frame::Padding),
         0x01 => Ok(Frame::Ping),

@@ -16,19 +16,17 @@ pub fn read_operand(
 ) -> Result<usize, Fault>
     ensures { IfOk result (λ n. n ≤ length out.old) }
 {
-    let mut at: usize = 0;
+    let mut rest = text;
     let mut n: usize = 0;
-    // A place and not an item: each piece says where the next begins.
+    // No iterator over pieces: it would have to hand out pieces and the fault after one, and would be used here alone.
     loop {
-        let end = piece_end(text, at);
-        n += read_one(rt, &text[at..end], kept, &mut out[n..])?;
-        if text.len() <= end {
-            return Ok(n);
+        let (piece, after) = rest.split_at(piece_end(rest, 0));
+        n += read_one(rt, piece, kept, &mut out[n..])?;
+        match after {
+            [] => return Ok(n),
+            [b'+', more @ ..] => rest = more,
+            _ => return Err(Fault::NoPiece),
         }
-        if text[end] != b'+' {
-            return Err(Fault::NoPiece);
-        }
-        at = end + 1;
     }
 }
 

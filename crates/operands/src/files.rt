@@ -20,7 +20,8 @@ pub fn read_file(rt: &impl Files, path: &[u8], out: &mut [u8]) -> Result<usize, 
     Ok(n)
 }
 
-// Fills the output from its front, until it is full, the file ends or a read fails, and gives how many bytes that are.
+// Fills the output from its front, until it is full, the file ends or a read fails, and gives how many bytes that are. A count, here and in
+// bytes.rt, and no slice: the next piece is put after it.
 fn read_full(file: &mut impl Read, out: &mut [u8]) -> usize
     ensures { result ≤ length out.old }
 {

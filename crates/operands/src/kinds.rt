@@ -21,7 +21,7 @@ pub enum Command {
 }
 
 impl Command {
-    // The command that has this word.
+    // The command that has this word. No `TryFrom`: its error would be a fault of a line, which is the business of who reads the line.
     pub fn from_word(word: &[u8]) -> Option<Command>
         ensures { result ≡ command_of word.now }
     {

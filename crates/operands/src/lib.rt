@@ -5,8 +5,8 @@ mod bytes;
 mod files;
 pub mod kinds;
 
-ghost use Rattle.std.specs.Prelude.{◌≤◌, length, IfOk};
-ghost use Rattle.operands.specs.Bounds.{InOrder};
+ghost use Rattle.std.specs.Prelude.{◌+◌, ◌≤◌, length, IfOk};
+ghost use Rattle.operands.specs.Bounds.{Within};
 
 use answers::Fault;
 use bytes::read_operand;
@@ -16,20 +16,11 @@ use script::words::word_at;
 use std::rt::Files;
 
 // The script language allows an operand of 131,072 bytes, and no command reads more than three.
-const OPERAND: usize = 131072;
+pub const OPERAND: usize = 131072;
 
-const INPUTS: usize = 393216;
+pub const INPUTS: usize = 393216;
 
-// The buffers of one operand and of three. As a call of its own an array costs the proofs of its users nothing, where the array itself would.
-pub fn room() -> [u8; OPERAND] {
-    [0u8; OPERAND]
-}
-
-pub fn inputs_room() -> [u8; INPUTS] {
-    [0u8; INPUTS]
-}
-
-// A profile is a number, or one of three names.
+// A profile is a number, or one of three names. It stays a number: a line may name any, and the maker refuses one that no profile has.
 fn read_profile(word: &[u8]) -> Option<u64> {
     match word {
         b"chrome" => Some(0),
@@ -39,93 +30,103 @@ fn read_profile(word: &[u8]) -> Option<u64> {
     }
 }
 
-// The number that a command has as its first operand, 0 where it has none.
-pub fn read_value(line: &[u8], command: Command) -> Result<u64, Fault> {
-    if command.numbers() == 0 {
-        return Ok(0);
-    }
-    let word = word_at(line, 1);
-    let value = if command == Command::Make {
-        read_profile(word)
-    } else {
-        read_number(word)
+// The bytes that a command reads, in the order of its operands. Those that it lacks are empty, and no Option: no command takes what it lacks.
+#[derive(Clone, Copy)]
+pub struct Inputs<'a> {
+    pub first: &'a [u8],
+    pub second: &'a [u8],
+    pub third: &'a [u8],
+}
+
+// Reads a word of bytes to the output's front, and hands out them and the output after them. No word is no bytes. The handle, and what `_`
+// stands for, are lent each on its own, here and below: a struct of them would be made for each call.
+fn read_word<'a>(
+    rt: &impl Files,
+    word: Option<&[u8]>,
+    kept: &[u8],
+    out: &'a mut [u8],
+) -> Result<(&'a mut [u8], &'a mut [u8]), Fault>
+    ensures { IfOk result (λ r. length r.0.now + length r.1.now ≤ length out.old) }
+{
+    let Some(text) = word else {
+        return Ok(out.split_at_mut(0));
     };
-    value.ok_or(Fault::NoNumber)
+    let most = out.len().min(OPERAND);
+    let n = read_operand(rt, text, kept, &mut out[..most])?;
+    Ok(out.split_at_mut(n))
 }
 
-// The byte operands that a command reads, one after the other in a buffer: where each ends. Those that it lacks are empty.
-#[derive(Clone, Copy, PartialEq, Eq, Debug)]
-pub struct Inputs {
-    pub first: usize,
-    pub second: usize,
-    pub third: usize,
+// A line, and the command that its first word says.
+#[derive(Clone, Copy)]
+pub struct Call<'a> {
+    pub line: &'a [u8],
+    pub command: Command,
 }
 
-// Where the room of an operand ends that begins at a place.
-fn room_end(start: usize, most: usize) -> usize
-    requires { start ≤ most }
-    ensures { (start ≤ result) × (result ≤ most) }
-{
-    start + (most - start).min(OPERAND)
-}
-
-// Reads an operand that a command reads, the one that has i others before it, and puts its bytes at a place: where they end. It is
-// empty where the command reads no more than i.
-fn read_input(
-    rt: &impl Files,
-    line: &[u8],
-    command: Command,
-    i: usize,
-    kept: &[u8],
-    out: &mut [u8],
-    start: usize,
-) -> Result<usize, Fault>
-    requires { start ≤ length out.old }
-    ensures { IfOk result (λ end. (start ≤ end) × (end ≤ length out.old)) }
-{
-    if command.inputs() <= i {
-        return Ok(start);
+impl Call<'_> {
+    // The word of bytes that the command reads, those that have i others before them.
+    fn input(&self, i: usize) -> Option<&[u8]> {
+        if self.command.inputs() <= i {
+            return None;
+        }
+        Some(word_at(self.line, 1 + self.command.numbers() + i))
     }
-    let word = word_at(line, 1 + command.numbers() + i);
-    let end = room_end(start, out.len());
-    let n = read_operand(rt, word, kept, &mut out[start..end])?;
-    Ok(start + n)
-}
 
-// Reads the bytes that a command reads; `_` stands for `kept`.
-pub fn read_inputs(
-    rt: &impl Files,
-    line: &[u8],
-    command: Command,
-    kept: &[u8],
-    out: &mut [u8],
-) -> Result<Inputs, Fault>
-    ensures { IfOk result (λ r. InOrder (length out.old) r) }
-{
-    let first = read_input(rt, line, command, 0, kept, out, 0)?;
-    let second = read_input(rt, line, command, 1, kept, out, first)?;
-    let third = read_input(rt, line, command, 2, kept, out, second)?;
-    Ok(Inputs {
-        first,
-        second,
-        third,
-    })
-}
-
-// Reads a buffer that a command fills, the one that has i others before it; it is empty where the command fills no more than i.
-pub fn read_buffer(
-    rt: &impl Files,
-    line: &[u8],
-    command: Command,
-    i: usize,
-    kept: &[u8],
-    out: &mut [u8],
-) -> Result<usize, Fault>
-    ensures { IfOk result (λ n. n ≤ length out.old) }
-{
-    if command.buffers() <= i {
-        return Ok(0);
+    // The word of a buffer that the command fills, the one that has i others before it. Beside `input`, and not one function of both: count and
+    // place would be its arguments.
+    fn buffer(&self, i: usize) -> Option<&[u8]> {
+        if self.command.buffers() <= i {
+            return None;
+        }
+        let place = 1 + self.command.numbers() + self.command.inputs() + i;
+        Some(word_at(self.line, place))
     }
-    let place = 1 + command.numbers() + command.inputs() + i;
-    read_operand(rt, word_at(line, place), kept, out)
+
+    // The number that the command has as its first operand. As bytes that it lacks are none, a number that it lacks is 0: with an
+    // Option its answer would have a case that cannot be.
+    pub fn read_value(&self) -> Result<u64, Fault> {
+        if self.command.numbers() == 0 {
+            return Ok(0);
+        }
+        let word = word_at(self.line, 1);
+        let value = if self.command == Command::Make {
+            read_profile(word)
+        } else {
+            read_number(word)
+        };
+        value.ok_or(Fault::NoNumber)
+    }
+
+    // Reads the bytes that the command reads to the output, one after the other; `_` stands for `kept`. Those that it lacks are none.
+    pub fn read_inputs<'a>(
+        &self,
+        rt: &impl Files,
+        kept: &[u8],
+        out: &'a mut [u8],
+    ) -> Result<Inputs<'a>, Fault>
+        ensures { IfOk result (λ r. Within (length out.old) r) }
+    {
+        let (first, rest) = read_word(rt, self.input(0), kept, out)?;
+        let (second, rest) = read_word(rt, self.input(1), kept, rest)?;
+        let (third, _) = read_word(rt, self.input(2), kept, rest)?;
+        Ok(Inputs {
+            first,
+            second,
+            third,
+        })
+    }
+
+    // Reads a buffer that the command fills, the one that has i others before it; it is empty where the command fills no more than i.
+    pub fn read_buffer<'a>(
+        &self,
+        rt: &impl Files,
+        i: usize,
+        kept: &[u8],
+        out: &'a mut [u8],
+    ) -> Result<&'a mut [u8], Fault>
+        ensures { IfOk result (λ b. length b.now ≤ length out.old) }
+    {
+        let (buffer, _) = read_word(rt, self.buffer(i), kept, out)?;
+        Ok(buffer)
+    }
 }

@@ -1,3 +1,3 @@
 pub mod Table
-pub mod TableLaws
 pub mod TestLaws
+pub mod TableLaws

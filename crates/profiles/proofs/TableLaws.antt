@@ -1,23 +1,22 @@
 -- The three profiles that the code's tables give: each is its value, and sound. Assumes nothing.
 use Prim.Native.Nat.{ℕ, ◌+◌, ◌*◌, ◌≤◌, ◌<◌}
 use mathlib.Core.Path.{◌≡◌, refl}
-use mathlib.Core.List.{List, [], ◌∷◌}
+use mathlib.Core.List.{List, [], ◌∷◌, map}
 use mathlib.Core.Bool.{true, false}
 use native.Mathlib.Omega.{arith}
 use lib.ListN.{length, get_or}
 use lib.Dec.{lit<}
 use Rattle.wire.specs.Sums.{total, any, member, distinct}
 use Rattle.varint.specs.Varint.{first_above, class}
+use Rattle.wire.proofs.ListLaws.{map-take}
 use Rattle.profiles.specs.Profile as value
 use Rattle.profiles.specs.Profile.{chrome_profile, firefox_profile, curl_profile, for_browser}
 use Rattle.profiles.specs.Sizes.{key_share_size, key_draws, parameter_draws, parameter_length, fixed_length, extension_extent, hello_length, hello_drawn, longest, tape_needed}
 use Rattle.profiles.specs.Test.{all, word_list, id_ok, parameter_ok, known, passes}
 use Rattle.profiles.specs.Rows.{padded, type_row, group_row, share_row, parameter_row}
-use Rattle.profiles.specs.Code.{browser_number, profile_of, Chosen}
+use Rattle.profiles.specs.Code.{browser_number, parameter_of, profile_of, Chosen}
 use Rattle.profiles.specs.declared.Browser.{Browser}
 use Rattle.profiles.specs.declared.Browser.TheVariants as named
-use Rattle.profiles.specs.declared.ExtType.{ExtType}
-use Rattle.profiles.specs.declared.Group.{Group}
 use Rattle.profiles.specs.declared.Profile.{Profile}
 use Rattle.profiles.specs.declared.TpEntry.{TpEntry}
 use Rattle.profiles.proofs.Table.{at-three, chrome-length, firefox-length, curl-length, chrome-tape, firefox-tape, curl-tape}
@@ -32,23 +31,24 @@ named-below named.Curl = lit< tt
 abbrev pub of_three : {A : Type 0} → (ℕ → A) → A → ℕ → A
 of_three f d b = get_or (f 0 ∷ f 1 ∷ f 2 ∷ []) b d
 
+-- at the number of a profile, the row of that profile
 pub row_of_lem : {A : Type 0} (f : ℕ → A) (d : A) (b : ℕ) → b < 3 → of_three f d b ≡ f b
 row_of_lem f d = at-three (λ b. of_three f d b ≡ f b) refl refl refl
 
--- the profile that the tables give, with the rows of structs as they are handed over; the last three are document 01's numbers
-abbrev pub filled : ℕ → List ExtType → List Group → List Group → List TpEntry → Profile
-filled b types groups shares parameters = record {
+-- the profile that the tables give, with these parameters; the last three are document 01's numbers
+abbrev pub stored : ℕ → List TpEntry → Profile
+stored b parameters = record {
   cipher_suites = of_three (λ k. padded 16 0 (for_browser k).cipher_suites) [] b;
   suite_count = of_three (λ k. length (for_browser k).cipher_suites) 0 b;
-  extensions_order = types;
+  extensions_order = of_three type_row [] b;
   extension_count = of_three (λ k. length (for_browser k).extensions_order) 0 b;
-  supported_groups = groups;
+  supported_groups = of_three group_row [] b;
   group_count = of_three (λ k. length (for_browser k).supported_groups) 0 b;
   signature_algorithms = of_three (λ k. padded 16 0 (for_browser k).signature_algorithms) [] b;
   algorithm_count = of_three (λ k. length (for_browser k).signature_algorithms) 0 b;
   supported_versions = of_three (λ k. padded 4 0 (for_browser k).supported_versions) [] b;
   version_count = of_three (λ k. length (for_browser k).supported_versions) 0 b;
-  key_share_groups = shares;
+  key_share_groups = of_three share_row [] b;
   share_count = of_three (λ k. length (for_browser k).key_share_groups) 0 b;
   alpn = of_three (λ k. value.h3) [] b;
   quic_tp = parameters;
@@ -61,27 +61,32 @@ filled b types groups shares parameters = record {
   scid_sources = get_or (0 ∷ 1 ∷ 0 ∷ []) b 0;
 }
 
-abbrev pub stored : ℕ → Profile
-stored b = filled b (type_row b) (group_row b) (share_row b) (parameter_row b)
-
 -- what its numbers say
-abbrev Numbers : ℕ → Type 0
-Numbers b =
-    ((stored b).suite_count ≤ 16)
-    × ((stored b).extension_count ≤ 16)
-    × ((stored b).group_count ≤ 8)
-    × ((stored b).algorithm_count ≤ 16)
-    × ((stored b).version_count ≤ 4)
-    × ((stored b).share_count ≤ 4)
-    × ((stored b).parameter_count ≤ 16)
-    × ((stored b).tape_needed ≡ tape_needed (for_browser b))
-    × ((stored b).longest < 16384)
-    × ((stored b).scid_sources ≤ 16)
+abbrev Numbers : List TpEntry → ℕ → Type 0
+Numbers entries b =
+    ((stored b entries).suite_count ≤ 16)
+    × ((stored b entries).extension_count ≤ 16)
+    × ((stored b entries).group_count ≤ 8)
+    × ((stored b entries).algorithm_count ≤ 16)
+    × ((stored b entries).version_count ≤ 4)
+    × ((stored b entries).share_count ≤ 4)
+    × ((stored b entries).parameter_count ≤ 16)
+    × ((stored b entries).tape_needed ≡ tape_needed (for_browser b))
+    × ((stored b entries).longest < 16384)
+    × ((stored b entries).scid_sources ≤ 16)
+
+-- parameters that stand for the profile's, filled up
+abbrev Stands : List TpEntry → ℕ → Type 0
+Stands entries b = map parameter_of entries ≡ parameter_row b
 
 -- the code's profile is the value
-stored_is : (b : ℕ) → b < 3 → profile_of (stored b) ≡ for_browser b
+stored_is : (b : ℕ) → b < 3 → (entries : List TpEntry) → Stands entries b → profile_of (stored b entries) ≡ for_browser b
 unfolding for_browser chrome_profile firefox_profile curl_profile
-stored_is = at-three (λ b. profile_of (stored b) ≡ for_browser b) refl refl refl
+stored_is =
+    at-three (λ b. (entries : List TpEntry) → Stands entries b → profile_of (stored b entries) ≡ for_browser b)
+    (λ l e. rw (map-take parameter_of 13 l, e) refl)
+    (λ l e. rw (map-take parameter_of 13 l, e) refl)
+    (λ l e. rw (map-take parameter_of 10 l, e) refl)
 
 -- each of the three passes the test
 pub passing : (b : ℕ) → b < 3 → passes (for_browser b) ≡ true
@@ -90,23 +95,23 @@ unfolding
     parameter_draws parameter_length class first_above all word_list id_ok parameter_ok known passes any member distinct
 passing = at-three (λ b. passes (for_browser b) ≡ true) refl refl refl
 
-numbers : (b : ℕ) → b < 3 → Numbers b
+numbers : (entries : List TpEntry) (b : ℕ) → b < 3 → Numbers entries b
 unfolding for_browser chrome_profile firefox_profile curl_profile
-numbers = at-three Numbers (omega (arith, chrome-tape)) (omega (arith, firefox-tape)) (omega (arith, curl-tape))
+numbers entries = at-three (Numbers entries) (omega (arith, chrome-tape)) (omega (arith, firefox-tape)) (omega (arith, curl-tape))
 
-longest-is : (b : ℕ) → b < 3 → (n s : ℕ) → s ≤ 20 → (stored b).longest + n + (stored b).scid_sources * s ≡ longest (for_browser b) n s
+longest-is : (entries : List TpEntry) (b : ℕ) → b < 3 → (n s : ℕ) → s ≤ 20 → (stored b entries).longest + n + (stored b entries).scid_sources * s ≡ longest (for_browser b) n s
 unfolding for_browser
-longest-is =
-    at-three (λ b. (n s : ℕ) → s ≤ 20 → (stored b).longest + n + (stored b).scid_sources * s ≡ longest (for_browser b) n s)
+longest-is entries =
+    at-three (λ b. (n s : ℕ) → s ≤ 20 → (stored b entries).longest + n + (stored b entries).scid_sources * s ≡ longest (for_browser b) n s)
     (λ n s h. omega (arith, chrome-length n s 200))
     (λ n s h. omega (arith, firefox-length n s 200 (omega arith)))
     (λ n s h. omega (arith, curl-length n s 200))
 
 -- what `for_browser` promises
-chosen : (b : ℕ) → b < 3 → Chosen b (stored b)
-chosen b h =
-    let is = stored_is b h in
-    let counts = numbers b h in
+pub chosen_of : (b : ℕ) → b < 3 → {entries : List TpEntry} → Stands entries b → Chosen b (stored b entries)
+chosen_of b h {entries} p =
+    let is = stored_is b h entries p in
+    let counts = numbers entries b h in
     record {
       is = is;
       sound = record {
@@ -118,13 +123,9 @@ chosen b h =
         shares = counts.5;
         parameters = counts.6;
         tape = rw is counts.7;
-        longest-is = rw is (longest-is b h);
+        longest-is = rw is (longest-is entries b h);
         short = counts.8;
         few = counts.9;
         test = rw is (passing b h);
       };
     }
-
-pub chosen_of : (b : ℕ) → b < 3 → {types : List ExtType} {groups shares : List Group} {parameters : List TpEntry}
-    → types ≡ type_row b → groups ≡ group_row b → shares ≡ share_row b → parameters ≡ parameter_row b → Chosen b (filled b types groups shares parameters)
-chosen_of b h t g s p = rw (t, g, s, p) (chosen b h)

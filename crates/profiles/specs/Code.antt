@@ -31,13 +31,9 @@ type_number t = t.0
 abbrev pub group_number : Group → ℕ
 group_number g = g.0
 
--- the table of bytes
-abbrev pub tp_bytes : List ℕ
-tp_bytes = 0x43 ∷ 0xe8 ∷ []
-
 abbrev pub parameter_of : TpEntry → value.Parameter
 parameter_of (entry.Varint i v) = value.varint i v
-parameter_of (entry.Bytes i n) = value.bytes i (take n tp_bytes)
+parameter_of (entry.Bytes i b) = value.bytes i b.now
 parameter_of (entry.VersionInfo i) = value.version_info i
 parameter_of (entry.ScidSource i) = value.scid_source i
 parameter_of entry.Grease = value.grease

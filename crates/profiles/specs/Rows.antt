@@ -4,8 +4,6 @@ use Rattle.profiles.specs.Profile as value
 use Rattle.profiles.specs.Profile.{for_browser}
 use Rattle.profiles.specs.declared.ExtType.{ExtType}
 use Rattle.profiles.specs.declared.Group.{Group}
-use Rattle.profiles.specs.declared.TpEntry.{TpEntry}
-use Rattle.profiles.specs.declared.TpEntry.TheVariants as entry
 
 abbrev pub padded : {A : Type 0} → ℕ → A → List A → List A
 padded m z l = l ++ replicate (m - length l) z
@@ -16,14 +14,6 @@ ext_type t = record { 0 = t }
 abbrev pub group : ℕ → Group
 group g = record { 0 = g }
 
--- an entry that stands for a parameter; of bytes the table of bytes has at most two
-abbrev pub entry_for : value.Parameter → TpEntry
-entry_for (value.varint i v) = entry.Varint i v
-entry_for (value.bytes i b) = entry.Bytes i (length b)
-entry_for (value.version_info i) = entry.VersionInfo i
-entry_for (value.scid_source i) = entry.ScidSource i
-entry_for value.grease = entry.Grease
-
 abbrev pub type_row : ℕ → List ExtType
 type_row b = padded 16 (ext_type 0) (map ext_type (for_browser b).extensions_order)
 
@@ -33,5 +23,5 @@ group_row b = padded 8 (group 0) (map group (for_browser b).supported_groups)
 abbrev pub share_row : ℕ → List Group
 share_row b = padded 4 (group 0) (map group (for_browser b).key_share_groups)
 
-abbrev pub parameter_row : ℕ → List TpEntry
-parameter_row b = padded 16 (entry_for (value.varint 0 0)) (map entry_for (for_browser b).quic_tp)
+abbrev pub parameter_row : ℕ → List value.Parameter
+parameter_row b = padded 16 (value.varint 0 0) (for_browser b).quic_tp

@@ -2,15 +2,15 @@
 // and a count says where it ends. Document 01, "Profiles and maker".
 #![tactic(auto)]
 
-ghost use Rattle.std.specs.Prelude.{◌≡◌, ◌<◌};
-ghost use Rattle.profiles.specs.Code.{browser_number, Chooses};
+ghost use Rattle.std.specs.Prelude.{◌≡◌, ◌<◌, take};
+ghost use Rattle.profiles.specs.Code.{browser_number, group_number, Chooses};
 
 pub mod built_in;
 pub mod ext;
 pub mod named_groups;
 pub mod tables;
 
-use wire::Refusal;
+use wire::{Refusal, Word};
 
 // A built-in profile. Callers name it by a number, which is also its row in the tables: 0 is Chrome, 1 Firefox, 2 curl.
 #[derive(Clone, Copy, PartialEq, Eq, Debug)]
@@ -21,6 +21,7 @@ pub enum Browser {
 }
 
 impl Browser {
+    // A method and no `From<Browser>`: `usize::from(browser)` would not say that it is the number of the profile.
     pub fn number(self) -> usize
         ensures { (result ≡ browser_number self) × (result < 3) }
     {
@@ -47,22 +48,29 @@ impl TryFrom<u64> for Browser {
     }
 }
 
-// 0x0017 is extended_master_secret among extension types and secp256r1 among groups: two types, so that the two never pass for one
-// another. The number is taken out where it is written to the wire, and nowhere else.
+// 0x0017 is extended_master_secret among extension types and secp256r1 among groups: two types, so that in a profile or a report the two
+// never pass for one another. What writes, prints or counts them takes the number out; the reader's walk has a type as the number read.
 #[derive(Clone, Copy, PartialEq, Eq, Debug)]
 pub struct ExtType(pub u16);
 
 #[derive(Clone, Copy, PartialEq, Eq, Debug)]
 pub struct Group(pub u16);
 
+impl Word for Group {
+    ghost word = { group_number };
+
+    fn word(self) -> u16 {
+        self.0
+    }
+}
+
 // A QUIC transport parameter. A customer's profile has numbers, connection ids and GREASE; bytes and 0x11 only the built-in ones have.
-// The value of `Bytes(id, n)` is the first n bytes of the table of bytes.
 #[derive(Clone, Copy, PartialEq, Eq, Debug)]
 pub enum TpEntry {
     // fixed id with a number, written as a varint
     Varint(u64, u64),
     // fixed id with bytes
-    Bytes(u64, usize),
+    Bytes(u64, &'static [u8]),
     // `version_information` (0x11)
     VersionInfo(u64),
     // the connection id as the value
@@ -71,9 +79,9 @@ pub enum TpEntry {
     Grease,
 }
 
-// What a hello is made of. Each list is an array with its count, since no heap is used, with room for what a customer may list (document 02, paper 10). The one
-// protocol is its name. The last three are sums over the profile: the tape that it needs, the length of its longest hello with neither
-// name nor connection id, and how often the connection id stands in it.
+// What a hello is made of. Each list is an array with its count, since no heap is used, with room for what a customer may list
+// (document 02, paper 10); by methods it is a slice. The one protocol is its name. The last three are sums over the profile: the tape that
+// it needs, the length of its longest hello with neither name nor connection id, and how often the connection id stands in it.
 // Its fields are open, so that a profile is sound (`Sound`) is asked where one is used, and is no invariant of the type.
 #[derive(Clone, Copy)]
 pub struct Profile {
@@ -100,4 +108,56 @@ pub struct Profile {
     pub tape_needed: usize,
     pub longest: usize,
     pub scid_sources: usize,
+}
+
+// The first so many elements of a list, all of them where it has no more.
+pub fn first<T>(list: &[T], count: usize) -> &[T]
+    ensures { result.now ≡ take count list.now }
+{
+    &list[..count.min(list.len())]
+}
+
+// The lists without what fills their arrays up.
+impl Profile {
+    pub fn suites(&self) -> &[u16]
+        ensures { result.now ≡ take self.now.suite_count self.now.cipher_suites }
+    {
+        first(&self.cipher_suites, self.suite_count)
+    }
+
+    pub fn extensions(&self) -> &[ExtType]
+        ensures { result.now ≡ take self.now.extension_count self.now.extensions_order }
+    {
+        first(&self.extensions_order, self.extension_count)
+    }
+
+    pub fn groups(&self) -> &[Group]
+        ensures { result.now ≡ take self.now.group_count self.now.supported_groups }
+    {
+        first(&self.supported_groups, self.group_count)
+    }
+
+    pub fn algorithms(&self) -> &[u16]
+        ensures { result.now ≡ take self.now.algorithm_count self.now.signature_algorithms }
+    {
+        first(&self.signature_algorithms, self.algorithm_count)
+    }
+
+    pub fn versions(&self) -> &[u16]
+        ensures { result.now ≡ take self.now.version_count self.now.supported_versions }
+    {
+        first(&self.supported_versions, self.version_count)
+    }
+
+    pub fn shares(&self) -> &[Group]
+        ensures { result.now ≡ take self.now.share_count self.now.key_share_groups }
+    {
+        first(&self.key_share_groups, self.share_count)
+    }
+
+    pub fn parameters(&self) -> &[TpEntry]
+        ensures { result.now ≡ take self.now.parameter_count self.now.quic_tp }
+    {
+        first(&self.quic_tp, self.parameter_count)
+    }
 }

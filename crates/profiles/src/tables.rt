@@ -1,5 +1,6 @@
 // The tables of profiles.rs, a row for each profile: Chrome, Firefox, curl. A row has room for what a customer may list; a count says
-// where it ends. The tables stand side by side by a rule of the project: tables are constants, indexed by profile.
+// where it ends. The tables, those of the counts
+// among them, stand side by side by a rule of the project: tables are constants, indexed by profile.
 use crate::ext::{
     ALPN, APPLICATION_SETTINGS, COMPRESS_CERTIFICATE, DELEGATED_CREDENTIALS,
     ENCRYPTED_CLIENT_HELLO, EXTENDED_MASTER_SECRET, KEY_SHARE, PSK_KEY_EXCHANGE_MODES,
@@ -149,7 +150,7 @@ pub const PROTOCOLS: [[u8; 2]; 3] = [[0x68, 0x33], [0x68, 0x33], [0x68, 0x33]];
 
 const CHROME_PARAMETERS: [TpEntry; 16] = [
     TpEntry::Varint(0x04, 15728640),
-    TpEntry::Bytes(0x0f, 0),
+    TpEntry::Bytes(0x0f, b""),
     TpEntry::Varint(0x07, 6291456),
     TpEntry::Varint(0x05, 6291456),
     TpEntry::Varint(0x03, 1472),
@@ -178,7 +179,7 @@ const FIREFOX_PARAMETERS: [TpEntry; 16] = [
     TpEntry::Varint(0x0e, 8),
     TpEntry::ScidSource(0x0f),
     TpEntry::VersionInfo(0x11),
-    TpEntry::Bytes(0xff02de1a, 2),
+    TpEntry::Bytes(0xff02de1a, b"\x43\xe8"),
     TpEntry::Varint(0x20, 65535),
     NONE,
     NONE,
@@ -195,7 +196,7 @@ const CURL_PARAMETERS: [TpEntry; 16] = [
     TpEntry::Varint(0x08, 100),
     TpEntry::Varint(0x09, 100),
     TpEntry::Varint(0x0e, 2),
-    TpEntry::Bytes(0x0f, 0),
+    TpEntry::Bytes(0x0f, b""),
     NONE,
     NONE,
     NONE,
@@ -207,8 +208,6 @@ const CURL_PARAMETERS: [TpEntry; 16] = [
 pub const PARAMETERS: [[TpEntry; 16]; 3] = [CHROME_PARAMETERS, FIREFOX_PARAMETERS, CURL_PARAMETERS];
 
 pub const PARAMETER_COUNTS: [usize; 3] = [13, 13, 10];
-
-pub const TP_BYTES: [u8; 2] = [0x43, 0xe8];
 
 pub const FIREFOX_COMPRESSION: [bool; 3] = [false, true, false];
 

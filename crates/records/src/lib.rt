@@ -25,7 +25,8 @@ pub fn next_record(blob: &[u8], place: usize) -> Result<Option<usize>, Refusal>
     Ok(Some(start + length))
 }
 
-// Hands back the record at a place as a part of the blob, without its length; an empty part at the end and at a refusal.
+// Hands back the record at a place as a part of the blob, without its length; an empty part at the end and at a refusal. Document 01 asks for
+// two calls, by places: `next_record` says which of the three it is.
 pub fn split_records<'a>(blob: &'a [u8], place: usize) -> &'a [u8]
     ensures { result.now ≡ record_of blob.now place }
 {

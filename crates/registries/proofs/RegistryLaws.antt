@@ -1,10 +1,13 @@
 -- What holds of a registry, and the tests that each of the six tables passes. Assumes nothing.
-use Rattle.std.specs.Prelude.{Option, Some, None, position}
+use Rattle.std.specs.Prelude.{Option, Some, None}
+use Rattle.std.specs.List.{find}
+use Rattle.std.specs.Option.{is_some, unwrap_or}
 use Prim.Native.Nat.{ℕ, zero, suc, ◌+◌, ◌-◌, ◌≤◌, ◌<◌}
-use mathlib.Core.Path.{◌≡◌, refl, sym, ap}
+use mathlib.Core.Path.{◌≡◌, refl, sym, ap, ◌∙◌}
 use mathlib.Core.Bool.{Bool, true, false, not, cond, true≢false}
-use mathlib.Core.List.{List, [], ◌∷◌}
+use mathlib.Core.List.{List, [], ◌∷◌, map}
 use native.Mathlib.Nat.{le_of_suc-le-suc, not-suc-le-zero}
+use native.Mathlib.Nat.{zero-add}
 use native.Mathlib.Decide.{ℕ_discrete}
 use native.Mathlib.Omega.{arith}
 use lib.ListN.{length, get_or}
@@ -13,23 +16,16 @@ use borrow.Author.Tests.{ltb-true, lt-ltb, le-ltb, eq-eqb, ne_eqb}
 use Rattle.wire.specs.Sums.{any, member}
 use Rattle.wire.proofs.SumLaws.{and_left, and_right, member-nil}
 use Rattle.script.specs.Scan.{space, distance, find_of}
-use Rattle.script.specs.Words.{word_from, word_of, is_there, has_operands}
-use Rattle.script.specs.declared.words.Word.{Word}
-use Rattle.script.proofs.ScanLaws.{position-some, position-none}
+use Rattle.script.specs.Words.{Word, word_from, word_of, is_there, has_operands}
 use Rattle.registries.specs.Registry.{texts, word, place_of, spare_words, name_in, rises, is_table}
 use Rattle.registries.specs.Tables.{suites, suite_names, groups, group_names, algorithms, algorithm_names, types, type_names}
 use Rattle.registries.specs.Tables.{versions, version_names, parameters, parameter_names}
+use Rattle.registries.specs.Tables.{suite_name, group_name, algorithm_name, type_name, version_name, parameter_name}
+use Rattle.registries.specs.Names.{numbers_of, names_of, name_of, Entry, places, Tabled}
+use Rattle.registries.specs.declared.Registry.{Registry}
+use Rattle.registries.specs.declared.Registry.TheVariants as registry
 
 -- ---- a name, by the number's place
-
--- where the library finds the number, and where it finds none
-pub place-some : (v : ℕ) (numbers : List ℕ) (k : ℕ) → Some k ≡ position (λ n. eqb n v) numbers → (k ≡ place_of v numbers) × (k < length numbers)
-unfolding place_of
-place-some v numbers k e = position-some v numbers k e
-
-pub place-none : (v : ℕ) (numbers : List ℕ) → ◌≡◌ {A = Option ℕ} None (position (λ n. eqb n v) numbers) → length numbers ≡ place_of v numbers
-unfolding place_of
-place-none v numbers e = position-none v numbers e
 
 module _ (numbers names : List ℕ) (spare v k : ℕ) (place : k ≡ place_of v numbers) where
   pub name-there : k < length numbers → name_in numbers names spare v ≡ word names k
@@ -154,3 +150,78 @@ unfolding
     suites suite_names groups group_names algorithms algorithm_names types type_names versions version_names parameters parameter_names
     texts is_table rises has_operands word_of word_from find_of distance
 rising-tables = (refl, refl, refl, refl, refl, refl)
+
+-- what a registry calls a number, by its table
+pub name-in-table : (r : Registry) (spare v : ℕ) → name_in (numbers_of r) (names_of r) spare v ≡ name_of r spare v
+unfolding suite_name group_name algorithm_name type_name version_name parameter_name
+name-in-table registry.Suites spare v = refl
+name-in-table registry.Groups spare v = refl
+name-in-table registry.Algorithms spare v = refl
+name-in-table registry.Types spare v = refl
+name-in-table registry.Versions spare v = refl
+name-in-table registry.Parameters spare v = refl
+
+-- ---- a name beside its number
+
+abbrev numbers_in : List Entry → List ℕ
+numbers_in es = map (λ (e : Entry). e.0) es
+
+abbrev names_in : List Entry → List (List ℕ)
+names_in es = map (λ (e : Entry). e.1.now) es
+
+numbers-long : (es : List Entry) → length (numbers_in es) ≡ length es
+numbers-long [] = refl
+numbers-long (e ∷ es) = ap suc (numbers-long es)
+
+-- the entry that the library finds stands at the number's place
+entry-at : (v : ℕ) (es : List Entry) (e : Entry) → find (λ (x : Entry). eqb x.0 v) es ≡ Some e
+    → (place_of v (numbers_in es) < length es) × (get_or (names_in es) (place_of v (numbers_in es)) [] ≡ e.1.now)
+entry-at v [] e h = absurd (true≢false (ap is_some (sym h)))
+entry-at v (x ∷ es) e h = go (λ k. entry-at v es e k) (ℕ_discrete x.0 v)
+  where
+    go : (find (λ (y : Entry). eqb y.0 v) es ≡ Some e
+        → (place_of v (numbers_in es) < length es) × (get_or (names_in es) (place_of v (numbers_in es)) [] ≡ e.1.now))
+        → Dec (x.0 ≡ v)
+        → (place_of v (numbers_in (x ∷ es)) < length (x ∷ es)) × (get_or (names_in (x ∷ es)) (place_of v (numbers_in (x ∷ es))) [] ≡ e.1.now)
+    go ih (yes q) =
+        let same : x ≡ e = ap (λ (o : Option Entry). unwrap_or o x) (rw (eq-eqb x.0 v q) at h) in
+        rw (place_here x.0 v (numbers_in es) q) (omega arith, ap (λ (y : Entry). y.1.now) same)
+    go ih (no q) =
+        let more = ih (rw (ne_eqb x.0 v q) at h) in
+        rw (place-next x.0 v (numbers_in es) q) (omega (arith, more.0), more.1)
+
+no-entry : (v : ℕ) (es : List Entry) → find (λ (x : Entry). eqb x.0 v) es ≡ None → place_of v (numbers_in es) ≡ length es
+no-entry v [] h = place_none v
+no-entry v (x ∷ es) h = go (λ k. no-entry v es k) (ℕ_discrete x.0 v)
+  where
+    go : (find (λ (y : Entry). eqb y.0 v) es ≡ None → place_of v (numbers_in es) ≡ length es) → Dec (x.0 ≡ v)
+        → place_of v (numbers_in (x ∷ es)) ≡ suc (length es)
+    go ih (yes q) = absurd (true≢false (ap is_some (rw (eq-eqb x.0 v q) at h)))
+    go ih (no q) = rw (place-next x.0 v (numbers_in es) q) (ap suc (ih (rw (ne_eqb x.0 v q) at h)))
+
+at-place : (f : ℕ → List ℕ) (n from k : ℕ) → k < n → get_or (map f (places n from)) k [] ≡ f (from + k)
+at-place f zero from k h = absurd (omega (arith, h))
+at-place f (suc n) from zero h = ap f (omega arith)
+at-place f (suc n) from (suc k) h = at-place f n (suc from) k (omega (arith, h)) ∙ ap f (omega arith)
+
+module _ (r : Registry) (es : List Entry) (t : Tabled (numbers_of r) (names_of r) es) (spare v : ℕ) where
+  long : length (numbers_of r) ≡ length es
+  long = ap length (sym t.numbers_are) ∙ numbers-long es
+
+  pub entry-name : (e : Entry) → find (λ (x : Entry). eqb x.0 v) es ≡ Some e → e.1.now ≡ name_of r spare v
+  entry-name e h =
+      let found = entry-at v es e h in
+      let place : place_of v (numbers_in es) ≡ place_of v (numbers_of r) = ap (place_of v) t.numbers_are in
+      let k : ℕ = place_of v (numbers_in es) in
+      let there : k < length (numbers_of r) = rw long found.0 in
+      sym found.1
+      ∙ ap (λ (l : List (List ℕ)). get_or l k []) (sym t.names_are)
+      ∙ at-place (word (names_of r)) (length es) 0 k found.0
+      ∙ ap (word (names_of r)) (zero-add k)
+      ∙ sym (name-there (numbers_of r) (names_of r) spare v k place there)
+      ∙ name-in-table r spare v
+
+  pub no-name : find (λ (x : Entry). eqb x.0 v) es ≡ None → word spare_words spare ≡ name_of r spare v
+  no-name h =
+      let place : length es ≡ place_of v (numbers_of r) = sym (no-entry v es h) ∙ ap (place_of v) t.numbers_are in
+      sym (name-missing (numbers_of r) (names_of r) spare v (length es) place (omega (arith, long))) ∙ name-in-table r spare v

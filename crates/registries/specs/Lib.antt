@@ -1,2 +1,3 @@
 pub mod Registry
 pub mod Tables
+pub mod Names

@@ -1,30 +1,51 @@
 // The names that registries give to numbers: cipher suites, groups, signature algorithms, extension types, versions and transport
-// parameters. A registry is a table of numbers, which rise, and a text that has a word for each of them.
+// parameters. A registry is a table of numbers, which rise, and their names.
 #![tactic(auto)]
 
-pub mod suites;
-pub mod tables;
+mod suites;
+mod tables;
 
-ghost use Rattle.std.specs.Prelude.{◌≡◌, ◌==◌, position};
+ghost use Rattle.std.specs.Prelude.{cond};
 ghost use Rattle.script_writing.specs.Shown.{Written};
-ghost use Rattle.registries.specs.Registry.{name_in};
+ghost use Rattle.registries.specs.Names.{numbers_of, names_of, name_of, Tabled};
 
-use script::words::word_at;
 use script_writing::texts::put_text;
+use suites::SUITES;
+use tables::{ALGORITHMS, GROUPS, PARAMETERS, TYPES, VERSIONS};
 
-// The place of a number in a table.
-pub fn place_of(numbers: &[u64], v: u64) -> Option<usize>
-    ensures { result ≡ position (λ n. n == v) numbers.now }
-{
-    numbers.iter().position(|n| *n == v)
+// The registries that name numbers.
+#[derive(Clone, Copy, PartialEq, Eq, Debug)]
+pub enum Registry {
+    Suites,
+    Groups,
+    Algorithms,
+    Types,
+    Versions,
+    Parameters,
 }
 
-// Writes the name of a number, or the spare word.
-fn put_in(out: &mut [u8], numbers: &[u64], names: &[u8], spare: usize, v: u64) -> usize
-    ensures { Written (name_in numbers.now names.now spare v) result out.old out.new }
-{
-    match place_of(numbers, v) {
-        Some(k) => put_text(out, word_at(names, k)),
-        None => put_text(out, word_at(b"unknown GREASE", spare)),
+impl Registry {
+    fn table(self) -> &'static [(u64, &'static str)]
+        ensures { Tabled (numbers_of self) (names_of self) result.now }
+    {
+        match self {
+            Registry::Suites => SUITES,
+            Registry::Groups => GROUPS,
+            Registry::Algorithms => ALGORITHMS,
+            Registry::Types => TYPES,
+            Registry::Versions => VERSIONS,
+            Registry::Parameters => PARAMETERS,
+        }
+    }
+
+    // Writes the name of a number, or of one that has none, whether it is one of those that are kept free.
+    pub fn put_name(self, out: &mut [u8], grease: bool, v: u64) -> usize
+        ensures { Written (name_of self (cond grease 1 0) v) result out.old out.new }
+    {
+        match self.table().iter().find(|entry| entry.0 == v) {
+            Some(entry) => put_text(out, entry.1.as_bytes()),
+            None if grease => put_text(out, b"GREASE"),
+            None => put_text(out, b"unknown"),
+        }
     }
 }

@@ -1,7 +1,7 @@
 -- Loops that write a label and then the parts of each element of a list. Assumes nothing.
 use Prim.Native.Nat.{ℕ, ◌+◌, ◌-◌, ◌≤◌, ◌<◌, zero-le}
 use mathlib.Core.Path.{◌≡◌, refl, sym, ap, ◌∙◌}
-use mathlib.Core.List.{List, [], ◌∷◌, ◌++◌, map, append_assoc, append-nil, map-append, map-map}
+use mathlib.Core.List.{List, [], ◌∷◌, ◌++◌, map, append_assoc, append-nil, map-map}
 use native.Mathlib.Numerals.{add-one}
 use native.Mathlib.Omega.{arith}
 use lib.ListN.{length, take, drop, get_or, length-drop}
@@ -57,15 +57,16 @@ module _ {A : Type 0} (items : List A) (i : ℕ) (d : A) (h : i < length items) 
   take_next : take i items ++ (get_or items i d ∷ []) ≡ take (i + 1) items
   take_next = rw add-one (sym (take-suc items i d h))
 
-  -- a part for each
-  pub map_next : {B : Type 0} (f : A → B) → map f (take i items) ++ (f (get_or items i d) ∷ []) ≡ map f (take (i + 1) items)
-  map_next f = sym (map-append f (take i items) (get_or items i d ∷ [])) ∙ ap (map f) take_next
-
 -- a part for each, by its number
 pub by-number : {A : Type 0} (label : List ℕ) (text : ℕ → List ℕ) (number : A → ℕ) (xs : List A) {n : ℕ} {old new : List ℕ}
     → WrittenAll (label ∷ map (λ x. text (number x)) xs) n old new → WrittenAll (label ∷ map text (map number xs)) n old new
 by-number label text number xs {n} {old} {new} w =
     all-as _ _ n old new (ap (λ (ts : List (List ℕ)). label ∷ ts) (sym (map-map text number xs))) w
+
+-- the list that a method handed out
+pub list-of : {A : Type 0} {label : List ℕ} (text : A → List ℕ) {xs ys : List A} {n : ℕ} {old new : List ℕ}
+    → xs ≡ ys → WrittenAll (label ∷ map text xs) n old new → WrittenAll (label ∷ map text ys) n old new
+list-of {A} {label} text {xs} {ys} {n} {old} {new} e w = all-as _ _ n old new (ap (λ (l : List A). label ∷ map text l) e) w
 
 each_append : {A : Type 0} (f : A → List (List ℕ)) (xs ys : List A) → each f (xs ++ ys) ≡ each f xs ++ each f ys
 unfolding each

@@ -1,11 +1,10 @@
 -- What is written of the report as the code hands it out: arrays with counts, and names as parts of the hello.
-use Rattle.std.specs.Prelude.{ℕ, ◌+◌, List, [], ◌∷◌, ◌++◌, map, take, drop, Option, Some, None}
-use Rattle.script_writing.specs.Hex.{word_text, id_text}
+use Rattle.std.specs.Prelude.{ℕ, ◌+◌, List, [], ◌∷◌, ◌++◌, take, drop, Option, Some, None}
 use Rattle.fingerprint_lists.specs.declared.Span.{Span}
-use Rattle.fingerprint_lists.specs.declared.Types.{Types}
+use Rattle.fingerprint_lists.specs.Arrays.{Types}
 use Rattle.fingerprint.specs.InRange.{type_numbers, group_numbers}
 use Rattle.fingerprint.specs.declared.Fingerprint.{Fingerprint}
-use Rattle.reports.specs.Lines.{suites_label, extensions_label, groups_label, shares_label, algorithms_label, versions_label, name_label, parameters_label, none_word, range_parts, each, first_lines, list_lines, last_lines, set_text}
+use Rattle.reports.specs.Lines.{none_word, range_parts, each, first_lines, list_lines, last_lines, set_text}
 
 -- a part of the hello: its range, and the name that it holds
 abbrev pub span_parts : List ℕ → Span → List (List ℕ)
@@ -15,32 +14,14 @@ abbrev pub sni_parts : List ℕ → Option Span → List (List ℕ)
 sni_parts h (Some s) = span_parts h s
 sni_parts h None = none_word ∷ []
 
-abbrev pub type_parts : Fingerprint → List (List ℕ)
-type_parts f =
-    (suites_label ∷ map word_text (take f.suite_count f.cipher_suites))
-    ++ (extensions_label ∷ map word_text (type_numbers f.extensions f.extension_count))
-
 abbrev pub first_parts : Fingerprint → List (List ℕ)
 first_parts f =
     first_lines f.legacy_session_id_len (take f.suite_count f.cipher_suites) (type_numbers f.extensions f.extension_count)
-
-abbrev pub group_parts : Fingerprint → List (List ℕ)
-group_parts f =
-    (groups_label ∷ map word_text (group_numbers f.supported_groups f.group_count))
-    ++ (shares_label ∷ map word_text (group_numbers f.key_share_groups f.share_count))
-
-abbrev pub algorithm_parts : Fingerprint → List (List ℕ)
-algorithm_parts f =
-    (algorithms_label ∷ map word_text (take f.algorithm_count f.signature_algorithms))
-    ++ (versions_label ∷ map word_text (take f.version_count f.supported_versions))
 
 abbrev pub list_parts : Fingerprint → List (List ℕ)
 list_parts f =
     list_lines (group_numbers f.supported_groups f.group_count) (group_numbers f.key_share_groups f.share_count)
     (take f.algorithm_count f.signature_algorithms) (take f.version_count f.supported_versions)
-
-abbrev pub parameter_parts : List ℕ → Fingerprint → List (List ℕ)
-parameter_parts h f = (name_label ∷ sni_parts h f.sni) ++ (parameters_label ∷ map id_text (take f.id_count f.transport_param_ids))
 
 abbrev pub last_parts : List ℕ → Fingerprint → List (List ℕ)
 last_parts h f =

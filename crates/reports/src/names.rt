@@ -1,15 +1,15 @@
 // Names, each with the range of the hello that holds it.
-ghost use Rattle.std.specs.Prelude.{[], ◌∷◌, take};
+ghost use Rattle.std.specs.Prelude.{[], ◌∷◌, length};
 ghost use Rattle.script.specs.Scan.{space};
 ghost use Rattle.script_writing.specs.Answers.{WrittenAll};
 ghost use Rattle.script_writing.specs.Names.{name_text};
 ghost use Rattle.reports.specs.Lines.{each, alpn_label, name_label};
 ghost use Rattle.reports.specs.Code.{span_parts, sni_parts};
-ghost use Rattle.fingerprint.specs.InRange.{Filled, Inside, SpansInside, SniInside};
+ghost use Rattle.fingerprint.specs.InRange.{Inside, SpansInside, SniInside};
 
 use fingerprint_lists::Span;
 use script_writing::names::put_name;
-use script_writing::texts::{put_text, put_two_numbers};
+use script_writing::texts::{Part, put_all, put_text};
 
 // Writes a space and a name.
 fn put_spaced_name(out: &mut [u8], name: &[u8]) -> usize
@@ -26,18 +26,24 @@ pub fn put_range(out: &mut [u8], hello: &[u8], span: Span) -> usize
 {
     let start = span.start;
     let end = start + span.length;
-    let n = put_two_numbers(out, b" ", start as u64, b"..", end as u64);
+    let parts = [
+        Part::Text(b" "),
+        Part::Number(start as u64),
+        Part::Text(b".."),
+        Part::Number(end as u64),
+    ];
+    let n = put_all(out, &parts);
     n + put_spaced_name(&mut out[n..], &hello[start..end])
 }
 
-// Writes the first `count` of protocol names, each with its range.
-pub fn put_protocols(out: &mut [u8], hello: &[u8], spans: [Span; 16], count: usize) -> usize
-    requires { Filled 16 spans count × SpansInside hello.now spans count }
-    ensures { WrittenAll (alpn_label ∷ each (span_parts hello.now) (take count spans)) result out.old out.new }
+// Writes protocol names, each with its range. No `put_list`, whose items are written without the hello.
+pub fn put_protocols(out: &mut [u8], hello: &[u8], spans: &[Span]) -> usize
+    requires { SpansInside hello.now spans.now (length spans.now) }
+    ensures { WrittenAll (alpn_label ∷ each (span_parts hello.now) spans.now) result out.old out.new }
 {
     let mut at = put_text(out, b"\n  alpn");
-    for i in 0..count {
-        at += put_range(&mut out[at..], hello, spans[i]);
+    for &span in spans {
+        at += put_range(&mut out[at..], hello, span);
     }
     at
 }

@@ -7,9 +7,9 @@ pub mod failures;
 
 ghost use Rattle.std.specs.Prelude.{◌≡◌, ◌≤◌, length, IfOk};
 ghost use Rattle.answers.specs.Said.{said_count};
-ghost use Rattle.runner.specs.Bounds.{Turned};
+ghost use Rattle.script.specs.Input.{Held};
 
-use answers::{Fault, Said};
+use answers::{Fault, Said, room};
 use failures::fail;
 use script::input::Input;
 use script_writing::texts::{put_number, put_text};
@@ -27,74 +27,80 @@ const LAST: usize = 131072;
 
 const ANSWER: usize = 1048576;
 
-// The buffers. As a call of its own an array costs the proof of its user nothing, where the array itself would.
-fn chunk_room() -> [u8; CHUNK] {
-    [0u8; CHUNK]
+// The lines of a script: what has been read of it, the line so far, and where they stand.
+#[derive(Drop)]
+struct Lines {
+    chunk: [u8; CHUNK],
+    line: [u8; LINE],
+    input: Input,
+    ghost held: { Held (length chunk) (length line) input },
 }
 
-fn line_room() -> [u8; LINE] {
-    [0u8; LINE]
+// What `_` stands for: the first `count` bytes of a buffer, which is lent to be written and so is no slice.
+#[derive(Drop)]
+struct Last {
+    bytes: [u8; LAST],
+    count: usize,
+    ghost held: { count ≤ length bytes },
 }
 
-fn last_room() -> [u8; LAST] {
-    [0u8; LAST]
+// What an answer is written to, and what it may name and replace.
+#[derive(Drop)]
+struct Replies {
+    last: Last,
+    out: [u8; ANSWER],
 }
 
-fn answer_room() -> [u8; ANSWER] {
-    [0u8; ANSWER]
+// Before the first answer: `_` stands for no bytes.
+fn start() -> Replies {
+    Replies {
+        last: Last {
+            bytes: room::<LAST>(),
+            count: 0,
+        },
+        out: room::<ANSWER>(),
+    }
 }
 
-// Answers every line of the script that the reader gives; with notes, which begin with `#`, where they are asked for.
+// A line that is to be answered. Of one that is too long these are the first bytes: they say whether it is a comment.
+#[derive(Clone, Copy)]
+struct Line<'a> {
+    bytes: &'a [u8],
+    number: u64,
+    long: bool,
+}
+
+// Answers every line of the script that the reader gives; with notes, which begin with `#`, where they are asked for. Handles, as `rt`
+// and `script`, are lent each on its own, here and below, and `notes` beside them: a struct of them would have a type parameter for each.
 pub fn run(
     rt: &(impl Files + Print + Eprint),
     script: &mut impl Read,
     notes: bool,
 ) -> io::Result<()> {
-    let mut chunk = chunk_room();
-    let mut line = line_room();
-    let mut last = last_room();
-    let mut out = answer_room();
-    answer_all(
-        rt, script, notes, &mut chunk, &mut line, &mut last, &mut out,
-    )
-}
-
-// Answers one line, with notes.
-pub fn run_line(rt: &(impl Files + Print), line: &[u8]) -> io::Result<()> {
-    let mut last = last_room();
-    let mut out = answer_room();
-    answer(rt, line, 1, false, true, &mut last, 0, &mut out)?;
-    Ok(())
-}
-
-// Where the run stands: in its input, and how many bytes `last` holds, those that `_` stands for.
-#[derive(Clone, Copy)]
-pub struct Standing {
-    pub input: Input,
-    pub kept: usize,
-}
-
-// A proved loop has to end, and nothing says that a script does. So the loop has a count of turns that no run uses up.
-fn answer_all(
-    rt: &(impl Files + Print + Eprint),
-    script: &mut impl Read,
-    notes: bool,
-    chunk: &mut [u8],
-    line: &mut [u8],
-    last: &mut [u8],
-    out: &mut [u8],
-) -> io::Result<()> {
-    let mut t = Standing {
+    let mut lines = Lines {
+        chunk: room::<CHUNK>(),
+        line: room::<LINE>(),
         input: Input::start(),
-        kept: 0,
     };
+    let mut replies = start();
+    // A proved loop has to end, and nothing says that a script does. So the loop has a count of turns that no run uses up.
     for _ in 0..u64::MAX {
-        t = turn(rt, script, notes, chunk, line, last, out, t)?;
-        if t.input.over {
+        turn(rt, script, notes, &mut lines, &mut replies)?;
+        if lines.input.over {
             break;
         }
     }
     Ok(())
+}
+
+// Answers one line, with notes.
+pub fn run_line(rt: &(impl Files + Print), line: &[u8]) -> io::Result<()> {
+    let line = Line {
+        bytes: line,
+        number: 1,
+        long: false,
+    };
+    answer(rt, line, true, &mut start())
 }
 
 // Reads once where the chunk is used up.
@@ -127,85 +133,57 @@ fn turn(
     rt: &(impl Files + Print + Eprint),
     script: &mut impl Read,
     notes: bool,
-    chunk: &mut [u8],
-    line: &mut [u8],
-    last: &mut [u8],
-    out: &mut [u8],
-    t: Standing,
-) -> io::Result<Standing>
-    requires { Turned (length chunk.old) (length line.old) (length last.old) t }
-    ensures { IfOk result (λ r. Turned (length chunk.old) (length line.old) (length last.old) r) }
-{
-    let filled = fill(rt, script, chunk, t.input);
-    let taken = filled.take(chunk, line);
+    lines: &mut Lines,
+    replies: &mut Replies,
+) -> io::Result<()> {
+    let filled = fill(rt, script, &mut lines.chunk, lines.input);
+    let taken = filled.take(&lines.chunk, &mut lines.line);
     if taken.whole {
-        let n = taken.length;
-        let kept = answer(
-            rt,
-            &line[0..n],
-            taken.number,
-            taken.long,
-            notes,
-            last,
-            t.kept,
-            out,
-        )?;
-        return Ok(Standing {
-            input: taken.next_line(),
-            kept,
-        });
+        let line = Line {
+            bytes: &lines.line[..taken.length],
+            number: taken.number,
+            long: taken.long,
+        };
+        answer(rt, line, notes, replies)?;
+        lines.input = taken.next_line();
+    } else {
+        lines.input = taken;
     }
-    Ok(Standing {
-        input: taken,
-        kept: t.kept,
-    })
+    Ok(())
 }
 
-// Answers a line, and gives how many bytes `last` now holds. "A line that is empty or begins with `#` has no answer."
+// Answers a line. "A line that is empty or begins with `#` has no answer."
 fn answer(
     rt: &(impl Files + Print),
-    line: &[u8],
-    number: u64,
-    long: bool,
+    line: Line<'_>,
     notes: bool,
-    last: &mut [u8],
-    kept: usize,
-    out: &mut [u8],
-) -> io::Result<usize>
-    requires { kept ≤ length last.old }
-    ensures { IfOk result (λ k. k ≤ length last.old) }
-{
-    if line.is_empty() || line[0] == b'#' {
-        return Ok(kept);
+    replies: &mut Replies,
+) -> io::Result<()> {
+    if line.bytes.is_empty() || line.bytes[0] == b'#' {
+        return Ok(());
     }
-    if long {
-        error(rt, number, Fault::LongLine, notes, out)?;
-        return Ok(kept);
+    if line.long {
+        return error(rt, line.number, Fault::LongLine, notes, &mut replies.out);
     }
-    answer_command(rt, line, number, notes, last, kept, out)
+    answer_command(rt, line, notes, replies)
 }
 
 // Answers a line that is a command. What `_` stands for is lent meanwhile, so what the answer hands back goes to a buffer of its own
 // first.
 fn answer_command(
     rt: &(impl Files + Print),
-    line: &[u8],
-    number: u64,
+    line: Line<'_>,
     notes: bool,
-    last: &mut [u8],
-    kept: usize,
-    out: &mut [u8],
-) -> io::Result<usize>
-    requires { kept ≤ length last.old }
-    ensures { IfOk result (λ k. k ≤ length last.old) }
-{
-    let mut handed = last_room();
-    let said = commands::command(rt, line, &last[0..kept], &mut handed, out);
-    tell(rt, said, number, notes, out)?;
+    replies: &mut Replies,
+) -> io::Result<()> {
+    let Replies { last, out } = replies;
+    let mut handed = room::<LAST>();
+    let said = commands::command(rt, line.bytes, &last.bytes[..last.count], &mut handed, out);
+    tell(rt, said, line.number, notes, out)?;
     if let Ok(Said::Handed(_, k)) = said {
-        return Ok(put_text(last, &handed[..k]));
+        last.count = put_text(&mut last.bytes, &handed[..k]);
     }
-    Ok(kept)
+    Ok(())
 }
 
 // Writes what a line is answered.

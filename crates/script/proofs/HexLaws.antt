@@ -1,5 +1,6 @@
 -- Hex: each case of a digit, and the bytes of pairs. Assumes nothing.
-use Rattle.std.proofs.Common.{◌≡◌, ℕ, zero, suc, ◌+◌, ◌-◌, ◌*◌, ◌/◌, ◌<◌, ◌≤◌, true, List, [], ◌∷◌, length, get_or, sym, refl, ap, ◌∙◌, arith, lt-ltb}
+use lib.ListN.{get_or-append}
+use Rattle.std.proofs.Common.{◌≡◌, ℕ, zero, suc, ◌+◌, ◌-◌, ◌*◌, ◌/◌, ◌<◌, ◌≤◌, true, List, [], ◌∷◌, ◌++◌, length, get_or, drop, sym, refl, ap, ap₂, ◌∙◌, arith, length-drop, length-append, get_or-drop, drop_at, drop-drop, lt-ltb}
 use Rattle.script.specs.Hex.{hex_digit, is_hex, hex_byte, pairs}
 use Rattle.script.proofs.ScanLaws.{among_in, among-above}
 
@@ -37,3 +38,17 @@ pairs-at (a ∷ b ∷ s) (suc i) h =
     pairs-at s i (omega arith)
     ∙ ap (λ (k : ℕ). hex_byte (get_or (a ∷ b ∷ s) k 0) (get_or s (2 * i + 1) 0)) (sym e)
     ∙ ap (λ (k : ℕ). hex_byte (get_or (a ∷ b ∷ s) (2 * suc i) 0) (get_or (a ∷ b ∷ s) k 0)) (sym f)
+
+-- the next pair of those that are left: its byte, and what is left then
+pub pair-next : (s pair rest : List ℕ) (n : ℕ) → drop (2 * n) s ≡ pair ++ rest → length pair ≡ 2
+    → (n < length (pairs s)) × (hex_byte (get_or pair 0 0) (get_or pair 1 0) ≡ get_or (pairs s) n 0) × (rest ≡ drop (2 * (n + 1)) s)
+pair-next s pair rest n e h =
+    let long : length s - 2 * n ≡ 2 + length rest = sym (length-drop (2 * n) s) ∙ ap length e ∙ length-append pair rest ∙ omega arith in
+    let within : n < length s / 2 = omega arith in
+    let at : (i : ℕ) → i < 2 → get_or s (2 * n + i) 0 ≡ get_or pair i 0 =
+    λ i l. sym (get_or-drop (2 * n) s i 0) ∙ ap (λ (t : List ℕ). get_or t i 0) e ∙ get_or-append pair rest 0 i (omega arith) in
+    let first : get_or s (2 * n) 0 ≡ get_or pair 0 0 = ap (λ (k : ℕ). get_or s k 0) (omega arith) ∙ at 0 (omega arith) in (
+      omega (arith, length_pairs s, within),
+      sym (pairs-at s n within ∙ ap₂ hex_byte first (at 1 (omega arith))),
+      sym (drop_at pair rest 2 h) ∙ ap (λ (t : List ℕ). drop 2 t) (sym e) ∙ drop-drop 2 (2 * n) s ∙ ap (λ (k : ℕ). drop k s) (omega arith),
+    )

@@ -1,9 +1,9 @@
 -- Pieces: where they end, what each kind stands for, and the answers. Assumes nothing.
 use Rattle.std.specs.Prelude.{Some, None, Result, Ok, Err}
-use Rattle.std.proofs.Common.{◌≡◌, ℕ, suc, ◌+◌, ◌-◌, ◌%◌, ◌<◌, ◌≤◌, min, true, false, cond, ◌&&◌, eqb, ltb, List, [], ◌∷◌, length, get_or, take, drop, replicate, refl, ap, subst, zero-le, le_refl, add-one, arith, length-drop, drop_of_length-le, drop-cons, le-ltb, lt-ltb, eq-eqb, ne_eqb, le-leb}
+use Rattle.std.proofs.Common.{◌≡◌, ℕ, suc, ◌+◌, ◌-◌, ◌%◌, ◌<◌, ◌≤◌, min, true, false, cond, ◌&&◌, eqb, ltb, List, [], length, get_or, take, drop, replicate, refl, ap, subst, zero-le, le_refl, add-one, arith, length-drop, drop_of_length-le, drop-cons, le-ltb, lt-ltb, eq-eqb, ne_eqb, le-leb}
 use borrow.Author.Tests.{lt-leb}
 use Rattle.wire.specs.Front.{front}
-use Rattle.script.specs.Scan.{all, is_only, begins, distance, quote, star, plus, dash, at, underscore, find_of, Found}
+use Rattle.script.specs.Scan.{all, is_only, distance, quote, star, plus, dash, at, underscore, find_of, Found}
 use Rattle.script.specs.Decimal.{number_of}
 use Rattle.script.specs.Hex.{is_hex, hex_byte, pairs}
 use Rattle.script.specs.Piece.{piece_length, piece_end, Meaning, bytes, file, malformed, is_plain, inner, text_of, hex_of, times_of, run_of, piece_of, answer_of, output_of, Read}
@@ -11,7 +11,7 @@ use Rattle.script.specs.declared.reading.NoPiece.{NoPiece}
 use Rattle.script.specs.declared.reading.NoPiece.TheVariants as no
 use Rattle.script.specs.declared.reading.Piece.{Piece}
 use Rattle.script.specs.declared.reading.Piece.TheVariants as piece
-use Rattle.script.proofs.ScanLaws.{and-not-right, distance-le, begins-first}
+use Rattle.script.proofs.ScanLaws.{and-not-right, distance-le, only_first, only-other, begins_first, begins-not}
 
 -- ---- where a piece ends
 
@@ -34,9 +34,9 @@ module _ (s : List ℕ) (i : ℕ) where
   unfolding piece_end find_of
   end-closed k h e f l = omega (arith, text-length h e)
 
-  pub end-open : (k : ℕ) → i < length s → get_or s i 0 ≡ quote → k ≡ find_of s (i + 1) quote → length s ≤ k → k ≡ piece_end s i
+  pub end-open : i < length s → get_or s i 0 ≡ quote → length s ≤ find_of s (i + 1) quote → length s ≡ piece_end s i
   unfolding piece_end find_of
-  end-open k h e f l = omega (arith, text-length h e, distance-le quote (drop (i + 1) s), length-drop (i + 1) s)
+  end-open h e l = omega (arith, text-length h e, distance-le quote (drop (i + 1) s), length-drop (i + 1) s)
 
 pub find_first : (s : List ℕ) (b : ℕ) → find_of s 0 b ≡ distance b s
 unfolding find_of
@@ -133,37 +133,32 @@ run-other s k e = rw (← e)
 
 -- ---- the table of pieces
 
-pub piece-none : (s last : List ℕ) → length s ≡ 0 → malformed ≡ piece_of s last
-unfolding piece_of is_only begins distance hex_of
-piece-none [] last h = refl
-piece-none (b ∷ s) last h = absurd (omega arith)
-
 module _ (s last : List ℕ) where
-  pub piece-dash : is_only dash s ≡ true → bytes [] ≡ piece_of s last
+  pub piece-dash : length s ≡ 1 → get_or s 0 0 ≡ dash → bytes [] ≡ piece_of s last
   unfolding piece_of
-  piece-dash e = rw e
+  piece-dash h e = rw (only_first dash s h e)
 
-  pub piece-last : is_only dash s ≡ false → is_only underscore s ≡ true → bytes last ≡ piece_of s last
+  pub piece-last : length s ≡ 1 → get_or s 0 0 ≡ underscore → bytes last ≡ piece_of s last
   unfolding piece_of
-  piece-last e f = rw (e, f)
+  piece-last h e = rw (only-other dash s (λ k p. omega arith), only_first underscore s h e)
 
-  module _ (e : is_only dash s ≡ false) (f : is_only underscore s ≡ false) (h : 0 < length s) where
-    pub piece-file : get_or s 0 0 ≡ at → file ≡ piece_of s last
+  pub piece-file : 0 < length s → get_or s 0 0 ≡ at → file ≡ piece_of s last
+  unfolding piece_of
+  piece-file h e = rw (only-other dash s (λ k p. omega arith), only-other underscore s (λ k p. omega arith), begins_first at s h e)
+
+  pub piece-text : 0 < length s → get_or s 0 0 ≡ quote → text_of s ≡ piece_of s last
+  unfolding piece_of
+  piece-text h e =
+      rw (only-other dash s (λ k p. omega arith), only-other underscore s (λ k p. omega arith), begins-not at s (λ k p. omega arith), begins_first quote s h e)
+
+  -- neither of these
+  module _ (e : is_only dash s ≡ false) (f : is_only underscore s ≡ false) (p : 0 < length s → get_or s 0 0 ≡ at → ⊥) (q : 0 < length s → get_or s 0 0 ≡ quote → ⊥) where
+    other : cond (ltb (distance star s) (length s)) (run_of s (distance star s)) (hex_of s) ≡ piece_of s last
     unfolding piece_of
-    piece-file p = rw (e, f, begins-first at s h, eq-eqb (get_or s 0 0) at p)
+    other = rw (e, f, begins-not at s p, begins-not quote s q)
 
-    module _ (p : get_or s 0 0 ≡ at → ⊥) where
-      pub piece-text : get_or s 0 0 ≡ quote → text_of s ≡ piece_of s last
-      unfolding piece_of
-      piece-text q = rw (e, f, begins-first at s h, ne_eqb (get_or s 0 0) at p, begins-first quote s h, eq-eqb (get_or s 0 0) quote q)
+    pub piece-run : distance star s < length s → run_of s (distance star s) ≡ piece_of s last
+    piece-run l = rw (lt-ltb (distance star s) (length s) l) at other
 
-      module _ (q : get_or s 0 0 ≡ quote → ⊥) where
-        other : cond (ltb (distance star s) (length s)) (run_of s (distance star s)) (hex_of s) ≡ piece_of s last
-        unfolding piece_of
-        other = rw (e, f, begins-first at s h, ne_eqb (get_or s 0 0) at p, begins-first quote s h, ne_eqb (get_or s 0 0) quote q)
-
-        pub piece-run : distance star s < length s → run_of s (distance star s) ≡ piece_of s last
-        piece-run l = rw (lt-ltb (distance star s) (length s) l) at other
-
-        pub piece-hex : length s ≤ distance star s → hex_of s ≡ piece_of s last
-        piece-hex l = rw (le-ltb (distance star s) (length s) l) at other
+    pub piece-hex : length s ≤ distance star s → hex_of s ≡ piece_of s last
+    piece-hex l = rw (le-ltb (distance star s) (length s) l) at other

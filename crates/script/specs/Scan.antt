@@ -1,5 +1,5 @@
 -- Tests and searches on bytes.
-use Rattle.std.specs.Prelude.{◌≡◌, ℕ, suc, ◌+◌, ◌-◌, ◌≤◌, Bool, false, cond, ◌&&◌, List, [], ◌∷◌, length, drop, ◌==◌, nat_le}
+use Rattle.std.specs.Prelude.{◌≡◌, ℕ, suc, ◌+◌, ◌-◌, ◌≤◌, Bool, false, cond, ◌&&◌, List, [], ◌∷◌, length, drop, ◌==◌, nat_le, nat_lt, Option, Some, None}
 use Rattle.std.specs.List.{list_all}
 use Prim.Native.Char.{code}
 use Prim.Native.String as native
@@ -59,6 +59,10 @@ distance b (x ∷ xs) = cond (x == b) 0 (suc (distance b xs))
 -- the place of the first b at or after a place
 unfoldable pub find_of : List ℕ → ℕ → ℕ → ℕ
 find_of s from b = from + distance b (drop from s)
+
+-- the same, where there is one
+abbrev pub found_of : List ℕ → ℕ → ℕ → Option ℕ
+found_of s from b = cond (nat_lt (find_of s from b) (length s)) (Some (find_of s from b)) None
 
 -- what a search promises: its answer, which lies at or after the place and within the list (at the place itself past the end)
 pub record Found (place : ℕ) (s : List ℕ) (from r : ℕ) : Type 0 where

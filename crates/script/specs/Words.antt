@@ -1,8 +1,12 @@
 -- Lines: "a command and its operands, parted by single spaces".
-use Rattle.std.specs.Prelude.{◌≡◌, ℕ, zero, suc, ◌+◌, ◌-◌, ◌≤◌, Bool, cond, not, ◌&&◌, List, [], length, take, drop, nat_lt, Option, Some, None}
+use Rattle.std.specs.Prelude.{ℕ, zero, suc, ◌+◌, ◌-◌, Bool, cond, not, ◌&&◌, List, [], length, take, drop, nat_lt, Option, Some, None}
 use Rattle.std.specs.Option.{is_some}
 use Rattle.script.specs.Scan.{space, find_of}
-use Rattle.script.specs.declared.words.Word.{Word}
+
+-- where a word of a line stands
+pub record Word : Type 0 where
+  pub start : ℕ
+  pub end : ℕ
 
 -- the word with k words before it, of those from a place on: each ends at the next space or at the line's end
 unfoldable pub word_from : List ℕ → ℕ → ℕ → Option Word
@@ -23,11 +27,3 @@ word_text line None = []
 -- just so many operands after the command: the last of them is there, and none after it
 unfoldable pub has_operands : List ℕ → ℕ → Bool
 has_operands line n = is_there (word_of line n) && not (is_there (word_of line (n + 1)))
-
-abbrev pub Inside : ℕ → Option Word → Type 0
-Inside n (Some w) = (w.start ≤ w.end) × (w.end ≤ n)
-Inside n None = Unit {0}
-
-pub record Placed (w : Option Word) (n : ℕ) (r : Option Word) : Type 0 where
-  pub is : r ≡ w
-  pub inside : Inside n r

@@ -7,10 +7,12 @@ use crate::reading::find;
 
 #[derive(Clone, Copy, PartialEq, Eq, Debug)]
 pub struct Input {
-    pub start: usize, // the chunk's bytes from start to end are still to be taken
+    // The chunk's bytes from start to end are still to be taken. Places and no slice: the chunk is read into again while they stand.
+    pub start: usize,
     pub end: usize,
-    pub length: usize, // of the line, as far as it has been taken
+    pub length: usize, // of the line, as far as it has been taken; of one that is too long, its first bytes
     pub number: u64, // the line's, from 1
+    // Three facts and no state: a line is too long before it has ended, and a script ends with a line that is whole, or with none.
     pub long: bool, // the line has more bytes than a line may have
     pub whole: bool, // the line has ended
     pub over: bool, // the script has ended
@@ -66,7 +68,7 @@ impl Input {
     {
         let start = self.start;
         let pending = &chunk[start..self.end];
-        let n = find(pending, 0, b'\n');
+        let n = find(pending, 0, b'\n').unwrap_or(pending.len());
         let longer = self.append(line, &pending[0..n]);
         longer.pass(start + n)
     }

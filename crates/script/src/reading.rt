@@ -1,8 +1,8 @@
 // Reading: numbers, and the pieces of byte operands. A piece's bytes are written over the front of the output, later bytes
 // stay, and where no bytes are read the output is untouched.
-ghost use Rattle.std.specs.Prelude.{◌≡◌, ◌==◌, ◌<◌, ◌≤◌, true, length, position};
+ghost use Rattle.std.specs.Prelude.{◌≡◌, ◌<◌, ◌≤◌, true, length, IfSome};
 ghost use Rattle.wire.specs.Front.{front};
-ghost use Rattle.script.specs.Scan.{all, is_only, find_of, Found};
+ghost use Rattle.script.specs.Scan.{all, found_of, Found};
 ghost use Rattle.script.specs.Decimal.{number_of};
 ghost use Rattle.script.specs.Hex.{digit_of, is_hex, hex_byte, pairs};
 ghost use Rattle.script.specs.Piece.{piece_end, is_plain, bytes, text_of, hex_of, times_of, run_of, piece_of, Read};
@@ -21,27 +21,19 @@ pub enum NoPiece {
     TooLong,
 }
 
-// The place of the first such byte.
-fn place_of(s: &[u8], byte: u8) -> Option<usize>
-    ensures { result ≡ position (λ b. b == byte) s.now }
-{
-    s.iter().position(|b| *b == byte)
-}
-
-// The place of the first such byte at or after a place, or where there is none the length (the place itself past the end).
-pub fn find(s: &[u8], from: usize, byte: u8) -> usize
-    ensures { Found (find_of s.now from byte) s.now from result }
+// The place of the first such byte at or after a place, as the definition of a piece's end asks for it (specs/Piece.antt).
+pub fn find(s: &[u8], from: usize, byte: u8) -> Option<usize>
+    ensures is { result ≡ found_of s.now from byte }
+    ensures inside { IfSome result (λ n. (from ≤ n) × (n < length s.now)) }
 {
     if s.len() <= from {
-        return from;
+        return None;
     }
-    match place_of(&s[from..], byte) {
-        Some(n) => from + n,
-        None => s.len(),
-    }
+    let n = s[from..].iter().position(|b| *b == byte)?;
+    Some(from + n)
 }
 
-// Reads a number: decimal and below 2^64.
+// Reads a number: decimal and below 2^64. Not by `parse`, which takes a text, and a sign before the digits.
 pub fn read_number(text: &[u8]) -> Option<u64>
     ensures { result ≡ number_of text.now }
 {
@@ -66,17 +58,15 @@ pub fn piece_end(operand: &[u8], from: usize) -> usize
         return from;
     }
     if operand[from] != b'"' {
-        return find(operand, from, b'+');
+        return find(operand, from, b'+').unwrap_or(operand.len());
     }
-    let close = find(operand, from + 1, b'"');
-    if close < operand.len() {
-        close + 1
-    } else {
-        close
+    match find(operand, from + 1, b'"') {
+        Some(close) => close + 1,
+        None => operand.len(),
     }
 }
 
-// The value of a hex digit.
+// The value of a hex digit. `char::to_digit` takes a char and a base and gives a u32: no plainer between two casts.
 #[tactic(auto, unfolding(crate::specs::Hex::hex_digit, crate::specs::Hex::is_hex))]
 pub fn hex_digit(b: u8) -> Option<u8>
     ensures { result ≡ digit_of b }
@@ -114,13 +104,6 @@ pub fn all_plain(text: &[u8]) -> bool
     ensures { result ≡ all is_plain text.now }
 {
     text.iter().all(|b| is_plain(*b))
-}
-
-// Whether a text is this one byte.
-fn is_only(text: &[u8], byte: u8) -> bool
-    ensures { result ≡ is_only byte text.now }
-{
-    text.len() == 1 && text[0] == byte
 }
 
 #[tactic(auto, unfolding(crate::specs::Hex::hex_byte, crate::specs::Hex::is_hex))]
@@ -161,13 +144,13 @@ fn read_text(text: &[u8], out: &mut [u8]) -> Result<Piece, NoPiece>
     }
 }
 
-// Writes the bytes of pairs of hex digits.
+// Writes the bytes of pairs of hex digits. Of what an adapter of `iter_mut` lends a proof knows nothing, so the output is not zipped with them.
 fn put_pairs(out: &mut [u8], text: &[u8])
     requires { (all is_hex text.now ≡ true) × (length (pairs text.now) ≤ length out.old) }
     ensures { out.new ≡ front (pairs text.now) out.old }
 {
-    for i in 0..text.len() / 2 {
-        out[i] = hex_byte(text[2 * i], text[2 * i + 1]);
+    for (i, pair) in text.chunks_exact(2).enumerate() {
+        out[i] = hex_byte(pair[0], pair[1]);
     }
 }
 
@@ -224,25 +207,14 @@ fn read_run(text: &[u8], star: usize, out: &mut [u8]) -> Result<Piece, NoPiece>
 pub fn read_piece(text: &[u8], last: &[u8], out: &mut [u8]) -> Result<Piece, NoPiece>
     ensures { Read (piece_of text.now last.now) result out.old out.new }
 {
-    if text.is_empty() {
-        return Err(NoPiece::Malformed);
-    }
-    if is_only(text, b'-') {
-        return Ok(Piece::Bytes(0));
-    }
-    if is_only(text, b'_') {
-        return read_given(last, out);
-    }
-    if text[0] == b'@' {
-        return Ok(Piece::File);
-    }
-    if text[0] == b'"' {
-        return read_text(text, out);
-    }
-    let star = find(text, 0, b'*');
-    if star < text.len() {
-        read_run(text, star, out)
-    } else {
-        read_hex(text, out)
+    match text {
+        b"-" => Ok(Piece::Bytes(0)),
+        b"_" => read_given(last, out),
+        [b'@', ..] => Ok(Piece::File),
+        [b'"', ..] => read_text(text, out),
+        _ => match find(text, 0, b'*') {
+            Some(star) => read_run(text, star, out),
+            None => read_hex(text, out),
+        },
     }
 }

@@ -1,5 +1,5 @@
 -- Parts of an answer, written one after the other. Assumes nothing.
-use Prim.Native.Nat.{ℕ, ◌+◌, ◌-◌, ◌≤◌}
+use Prim.Native.Nat.{ℕ, ◌+◌, ◌-◌, ◌≤◌, zero-le}
 use mathlib.Core.Path.{◌≡◌, refl, sym, ap, ◌∙◌, subst}
 use mathlib.Core.List.{List, [], ◌∷◌, ◌++◌, append_assoc, append-nil}
 use native.Mathlib.Omega.{arith}
@@ -7,6 +7,7 @@ use lib.ListN.{length, drop, length-append, length-drop}
 use lib.Seq.{length-take-le}
 use borrow.Author.Tests.{le-leb}
 use borrow.Rule.Slice.PartMut.{mid_of, put_mid}
+use Rattle.wire.specs.Front.{front}
 use Rattle.wire.proofs.FrontLaws.{length_front, lent-front}
 use Rattle.script_writing.specs.Shown.{fitted, Written}
 use Rattle.script_writing.specs.Answers.{fitted_all, WrittenAll}
@@ -22,6 +23,11 @@ fitted_all-append (t ∷ ts) us room =
     let m : ℕ = length (fitted_all ts (room - n)) in
     let e : room - n - m ≡ room - (n + m) = omega arith in
     rw (fitted_all-append ts us (room - n), length-append, append_assoc, e)
+
+-- no part
+pub written_none : (out : List ℕ) → WrittenAll [] 0 out out
+unfolding fitted_all front
+written_none out = record { put = record { count = refl; output = refl }; within = zero-le }
 
 -- one part
 pub written_one : (t : List ℕ) (r : ℕ) (old new : List ℕ) → Written t r old new → WrittenAll (t ∷ []) r old new

@@ -4,7 +4,7 @@ use Prim.Native.Nat.{ℕ, zero, suc, ◌+◌, ◌*◌, ◌-◌, ◌/◌, ◌%◌
 use mathlib.Core.Path.{◌≡◌, refl, sym, ap, ◌∙◌}
 use mathlib.Core.Logic.{⊎_elim}
 use mathlib.Core.List.{List, [], ◌∷◌, ◌++◌, map, append_assoc, append-nil, map-append}
-use native.Mathlib.Nat.{not-suc-le-zero, le_refl, div-lt_iff_lt-mul, le-div_iff_mul-le, pow-suc, mul_assoc, one-le-pow, mul-le-mul_right, pow-le-pow_right}
+use native.Mathlib.Nat.{not-suc-le-zero, le_refl, div-lt_iff_lt-mul, le-div_iff_mul-le, pow-suc, mul_assoc, one-le-pow, mul-le-mul_right}
 use native.Mathlib.Numerals.{unary_clauses}
 use native.Mathlib.Omega.{arith}
 use lib.ListN.{length, take, drop, set, length-append, length-map, length-set, length-drop}
@@ -17,7 +17,7 @@ use Rattle.wire.proofs.ListLaws.{lt-or-le, drop-set-here}
 use Rattle.wire.proofs.NumberLaws.{length_digits}
 use Rattle.script_writing.specs.Digits.{places}
 use Rattle.script_writing.specs.Decimal.{decimal_letter, decimal_width, decimal_digits, decimal_text}
-use Rattle.script_writing.specs.Hex.{hex_letter, hex_digits}
+use Rattle.script_writing.specs.Hex.{hex_letter, hex_width, hex_digits}
 
 -- ---- how many digits
 
@@ -46,9 +46,30 @@ places-log base (suc n) v (suc k) b h l u =
     let next = places-log base n (v / base) k b (omega arith) ((le-div_iff_mul-le b).1 large) ((div-lt_iff_lt-mul b).1 below) in
     omega (arith, next, places-large base n v first)
 
--- and in hex it is below 16
-pub hex-log : (v k : ℕ) → v < 2 ^ 64 → 16 ^ k ≤ v → k + 1 ≤ 16
-hex-log v k h l = ⊎_elim (λ p. omega arith) (λ q. absurd (omega (arith, pow-le-pow_right {n = 16} (omega arith) q))) (lt-or-le k 16)
+-- any count of digits that is enough for the number will do
+pub places-enough : (base n m v : ℕ) → 0 < n → 0 < m → 0 < base → v < base ^ n → v < base ^ m → places base n v ≡ places base m v
+places-enough base zero m v p q b h k = absurd (omega arith)
+places-enough base (suc n) zero v p q b h k = absurd (omega arith)
+places-enough base (suc n) (suc m) v p q b h k =
+    ⊎_elim
+    (λ l. places-small base n v l ∙ sym (places-small base m v l))
+    (λ l.
+    let first : v / base < base ^ n = (div-lt_iff_lt-mul b).1 (rw pow-suc at h) in
+    let second : v / base < base ^ m = (div-lt_iff_lt-mul b).1 (rw pow-suc at k) in
+    places-large base n v l ∙ ap suc (places-enough base n m (v / base) (some n h l) (some m k l) b first second) ∙ sym (places-large base m v l))
+    (lt-or-le v base)
+  where
+    some : (n : ℕ) → v < base ^ suc n → base ≤ v → 0 < n
+    some zero h l = let first : v < base ^ zero * base = rw pow-suc at h in absurd (omega (arith, simp unary_clauses at first))
+    some (suc n) h l = omega arith
+
+pub decimal-width-is : (v : ℕ) → v < 2 ^ 64 → places 10 64 v ≡ decimal_width v
+unfolding decimal_width
+decimal-width-is v h = places-enough 10 64 20 v (omega arith) (omega arith) (omega arith) (omega arith) (omega arith)
+
+pub hex-width-is : (v : ℕ) → v < 2 ^ 64 → places 16 64 v ≡ hex_width v
+unfolding hex_width
+hex-width-is v h = places-enough 16 64 16 v (omega arith) (omega arith) (omega arith) (omega arith) (omega arith)
 
 -- ---- the low digits, each by its letter
 

@@ -64,7 +64,7 @@ hex-piece s last f h =
     let q : all is_hex t ≡ true = hex_text-hex s f in
     let long : length t ≡ 2 * length s = length-hex_text s in
     sym
-    (piece-hex t last (only-not dash t (λ e. omega arith)) (only-not underscore t (λ e. omega arith)) (omega arith) (first-not at t refl q (omega arith)) (first-not quote t refl q (omega arith))
+    (piece-hex t last (only-not dash t (λ e. omega arith)) (only-not underscore t (λ e. omega arith)) (first-not at t refl q) (first-not quote t refl q)
     (omega (arith, distance_none star t refl q)))
     ∙ hex-back s f h
 

@@ -141,7 +141,7 @@ module _ (n b : ℕ) (h : b < 256) where
       let t = run_text n b in
       let long : 3 ≤ length t = omega (arith, length-run_text n b) in
       sym
-      (piece-run t last (only-not dash t (λ e. omega arith)) (only-not underscore t (λ e. omega arith)) (omega arith) (run-first at refl) (run-first quote refl)
+      (piece-run t last (only-not dash t (λ e. omega arith)) (only-not underscore t (λ e. omega arith)) (λ l. run-first at refl) (λ l. run-first quote refl)
       (omega (arith, run-star, length-run_text n b, length-decimal_text n)))
       ∙ ap (λ (k : ℕ). run_of t k) run-star
       ∙ run-parts l

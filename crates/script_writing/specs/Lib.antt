@@ -4,3 +4,4 @@ pub mod Hex
 pub mod Shown
 pub mod Answers
 pub mod Names
+pub mod Parts

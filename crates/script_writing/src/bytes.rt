@@ -1,11 +1,11 @@
-// Bytes: in hex, and as an answer shows them.
+// Bytes: in hex, and as an answer shows them. No `write!`: a text that does not fit is left out as a whole (lib.rt).
 ghost use Rattle.std.specs.Prelude.{◌≡◌, ◌==◌, ◌≤◌, length, reverse};
 ghost use Rattle.std.specs.List.{take_while};
 ghost use Rattle.wire.specs.Front.{front};
 ghost use Rattle.script_writing.specs.Hex.{hex_pair, hex_text};
 ghost use Rattle.script_writing.specs.Shown.{Written, trailing_run, run_text, joined_text, shown_text};
 
-use crate::numbers::{decimal_width, hex_letter, put_decimal};
+use crate::numbers::{fill_digits, put_decimal, width};
 use crate::texts::put_text;
 
 // Writes the two digits of a byte.
@@ -13,8 +13,7 @@ fn put_pair(out: &mut [u8], b: u8)
     requires { 2 ≤ length out.old }
     ensures { out.new ≡ front (hex_pair b) out.old }
 {
-    out[0] = hex_letter(b / 16);
-    out[1] = hex_letter(b % 16);
+    fill_digits::<16>(&mut out[..2], u64::from(b));
 }
 
 // Writes bytes in hex, lower case, two digits a byte.
@@ -24,12 +23,11 @@ pub fn put_hex(out: &mut [u8], bytes: &[u8]) -> usize
     if out.len() / 2 < bytes.len() {
         return 0;
     }
-    let mut at: usize = 0;
-    for &b in bytes {
-        put_pair(&mut out[at..], b);
-        at += 2;
+    // A place and no `chunks_exact_mut`: of the elements that it lends a proof knows nothing afterwards.
+    for (i, &b) in bytes.iter().enumerate() {
+        put_pair(&mut out[2 * i..], b);
     }
-    at
+    2 * bytes.len()
 }
 
 // How many bytes at the end equal a byte.
@@ -53,7 +51,7 @@ fn trailing_run(bytes: &[u8]) -> usize
 fn put_run(out: &mut [u8], times: u64, byte: u8) -> usize
     ensures { Written (run_text times byte) result out.old out.new }
 {
-    let width = decimal_width(times);
+    let width = width::<10>(times);
     if out.len() < width + 3 {
         return 0;
     }
@@ -67,7 +65,7 @@ fn put_run(out: &mut [u8], times: u64, byte: u8) -> usize
 fn put_joined(out: &mut [u8], head: &[u8], times: u64, byte: u8) -> usize
     ensures { Written (joined_text head.now (run_text times byte)) result out.old out.new }
 {
-    let after = decimal_width(times) + 4;
+    let after = width::<10>(times) + 4;
     if out.len() < after {
         return 0;
     }

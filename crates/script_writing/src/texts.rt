@@ -1,9 +1,9 @@
 // Words, numbers and bytes one after the other.
-ghost use Rattle.std.specs.Prelude.{[], ◌∷◌};
-ghost use Rattle.script.specs.Scan.{space};
+ghost use Rattle.std.specs.Prelude.{[], ◌∷◌, map};
 ghost use Rattle.script_writing.specs.Decimal.{decimal_text};
-ghost use Rattle.script_writing.specs.Shown.{Written, shown_text};
+ghost use Rattle.script_writing.specs.Shown.{Written};
 ghost use Rattle.script_writing.specs.Answers.{WrittenAll};
+ghost use Rattle.script_writing.specs.Parts.{part_text};
 
 use crate::bytes::put_operand;
 use crate::numbers::put_decimal;
@@ -18,7 +18,7 @@ pub fn put_text(out: &mut [u8], text: &[u8]) -> usize
     wire::put_bytes(out, text)
 }
 
-// Writes words and a number.
+// Writes words and a number: what most callers write, so with no list.
 pub fn put_number(out: &mut [u8], words: &[u8], number: u64) -> usize
     ensures { WrittenAll (words.now ∷ decimal_text number ∷ []) result out.old out.new }
 {
@@ -26,70 +26,32 @@ pub fn put_number(out: &mut [u8], words: &[u8], number: u64) -> usize
     n + put_decimal(&mut out[n..], number)
 }
 
-// Writes words and a number, twice.
-pub fn put_two_numbers(out: &mut [u8], words: &[u8], number: u64, more: &[u8], second: u64) -> usize
-    ensures { WrittenAll (words.now ∷ decimal_text number ∷ more.now ∷ decimal_text second ∷ []) result out.old out.new }
-{
-    let n = put_number(out, words, number);
-    n + put_number(&mut out[n..], more, second)
+// A part of an answer: words, or a number or bytes as an answer shows them.
+#[derive(Clone, Copy, PartialEq, Eq, Debug)]
+pub enum Part<'a> {
+    Text(&'a [u8]),
+    Number(u64),
+    Bytes(&'a [u8]),
 }
 
-// Writes a space and bytes.
-fn put_spaced(out: &mut [u8], bytes: &[u8]) -> usize
-    ensures { WrittenAll ((space ∷ []) ∷ shown_text bytes.now ∷ []) result out.old out.new }
+// Writes a part.
+fn put_part(out: &mut [u8], part: Part<'_>) -> usize
+    ensures { Written (part_text part.entry) result out.old out.new }
 {
-    let n = put_text(out, b" ");
-    n + put_operand(&mut out[n..], bytes)
+    match part {
+        Part::Text(words) => put_text(out, words),
+        Part::Number(number) => put_decimal(out, number),
+        Part::Bytes(bytes) => put_operand(out, bytes),
+    }
 }
 
-// Writes words, a number, a space and bytes.
-pub fn put_number_and_bytes(out: &mut [u8], words: &[u8], number: u64, bytes: &[u8]) -> usize
-    ensures { WrittenAll (words.now ∷ decimal_text number ∷ (space ∷ []) ∷ shown_text bytes.now ∷ []) result out.old out.new }
+// Writes parts one after the other.
+pub fn put_all(out: &mut [u8], parts: &[Part<'_>]) -> usize
+    ensures { WrittenAll (map part_text parts.now) result out.old out.new }
 {
-    let n = put_number(out, words, number);
-    n + put_spaced(&mut out[n..], bytes)
-}
-
-// Writes words and a number, twice, a space and bytes.
-pub fn put_two_numbers_and_bytes(
-    out: &mut [u8],
-    words: &[u8],
-    number: u64,
-    more: &[u8],
-    second: u64,
-    bytes: &[u8],
-) -> usize
-    ensures { WrittenAll (words.now ∷ decimal_text number ∷ more.now ∷ decimal_text second ∷ (space ∷ []) ∷ shown_text bytes.now ∷ []) result out.old out.new }
-{
-    let n = put_two_numbers(out, words, number, more, second);
-    n + put_spaced(&mut out[n..], bytes)
-}
-
-// The same, and a space and bytes again.
-pub fn put_number_and_two(
-    out: &mut [u8],
-    words: &[u8],
-    number: u64,
-    bytes: &[u8],
-    second: &[u8],
-) -> usize
-    ensures { WrittenAll (words.now ∷ decimal_text number ∷ (space ∷ []) ∷ shown_text bytes.now ∷ (space ∷ []) ∷ shown_text second.now ∷ []) result out.old out.new }
-{
-    let n = put_number_and_bytes(out, words, number, bytes);
-    n + put_spaced(&mut out[n..], second)
-}
-
-// Writes words, bytes, more words and a number.
-pub fn put_bytes_and_number(
-    out: &mut [u8],
-    words: &[u8],
-    bytes: &[u8],
-    more: &[u8],
-    number: u64,
-) -> usize
-    ensures { WrittenAll (words.now ∷ shown_text bytes.now ∷ more.now ∷ decimal_text number ∷ []) result out.old out.new }
-{
-    let n = put_text(out, words);
-    let m = n + put_operand(&mut out[n..], bytes);
-    m + put_number(&mut out[m..], more, number)
+    let mut at = 0;
+    for &part in parts {
+        at += put_part(&mut out[at..], part);
+    }
+    at
 }

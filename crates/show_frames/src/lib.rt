@@ -12,7 +12,7 @@ ghost use Rattle.show_frames.specs.Frames.{line_size, RowsWritten, FramesListed}
 
 use frames::reading::{CryptoFrame, Frame, read_frame};
 use show_marks::put_verdict;
-use show_words::{Spot, Told, put_line};
+use show_words::{Spot, Told, put_last_line, put_line};
 use wire::{Refusal, Stop};
 
 // A list of frames may have up to 131,072 bytes, so a place has five hex digits.
@@ -52,20 +52,19 @@ fn reason(refusal: Refusal) -> &'static str {
     }
 }
 
-// What is told by some words and up to three numbers, and of a refusal there.
-fn told(words: &'static str, stop: Option<Stop>, said: u64, left: u64, value: u64) -> Told {
+// What is told by some words, and of a refusal there. The words name neither the line nor its part.
+fn told(words: &'static str, stop: Option<Stop>) -> Told {
     Told {
         words,
-        why: stop.map_or("", |s| reason(s.refusal)),
+        why: stop.map(|s| reason(s.refusal)),
         depth: 0,
-        noun: "",
-        part: "",
-        registry: None,
-        id: 0,
-        front: 0,
-        said,
-        left,
-        value,
+        noun: "frame",
+        part: "list",
+        registered: None,
+        front: None,
+        said: 0,
+        left: 0,
+        value: None,
     }
 }
 
@@ -74,26 +73,57 @@ fn told_crypto(c: CryptoFrame, stop: Option<Stop>) -> Told
     requires { (c.start ≤ c.end) × (c.end < 2 ^ 63) × (c.offset < 2 ^ 62) }
 {
     let length = (c.end - c.start) as u64;
-    told(
-        "<CRYPTO offset %, # $, end +",
-        stop,
-        length,
-        c.offset + length,
-        c.offset,
-    )
+    Told {
+        said: length,
+        left: c.offset + length,
+        value: Some(c.offset),
+        ..told("<CRYPTO offset %, # $, end +", stop)
+    }
 }
 
 // Of the frame at the front.
 fn told_frame(input: &[u8], stop: Option<Stop>) -> Told {
     match read_frame(input) {
-        Ok(Frame::Padding) => told("<PADDING, # $", stop, zeros(input) as u64, 0, 0),
-        Ok(Frame::Ping) => told("<PING", stop, 0, 0, 0),
+        Ok(Frame::Padding) => Told {
+            said: zeros(input) as u64,
+            ..told("<PADDING, # $", stop)
+        },
+        Ok(Frame::Ping) => told("<PING", stop),
         Ok(Frame::Crypto(c)) => told_crypto(c, stop),
-        Err(_) => told("<no frame", stop, 0, 0, 0),
+        Err(_) => told("<no frame", stop),
     }
 }
 
-// Writes the line of so many bytes at a place of the list.
+// The lines of a list of frames from a place on: where each begins, and how many bytes it takes.
+#[derive(Drop)]
+struct Lines<'a> {
+    frames: &'a [u8],
+    at: usize,
+}
+
+impl<'a> Iterator for Lines<'a> {
+    ghost use Rattle.std.specs.Prelude.{◌-◌, length};
+    ghost use Rattle.std.specs.Iterator.{at_most};
+    ghost use Rattle.show_frames.specs.Lines.{GivesLine};
+
+    type Item = (usize, usize);
+
+    ghost next_gives = { GivesLine };
+
+    ghost remaining = { λ s. at_most (length s.frames.now - s.at) };
+
+    fn next(&mut self) -> Option<(usize, usize)> {
+        let at = self.at;
+        if self.frames.len() <= at {
+            return None;
+        }
+        let size = line_size(&self.frames[at..]);
+        self.at = at + size;
+        Some((at, size))
+    }
+}
+
+// Writes the line of so many bytes at a place of the list. What it shares with a hello's line is `put_line`; what is told of it is its own.
 fn put_row(out: &mut [u8], frames: &[u8], at: usize, size: usize, stop: Option<Stop>) -> usize
     requires { at + size ≤ length frames.now }
     ensures { LineWritten 5 frames.now (stop_of stop) (row at (at + size) 0) result out.old out.new }
@@ -120,32 +150,24 @@ fn put_end(out: &mut [u8], frames: &[u8], at: usize, stop: Option<Stop>) -> usiz
     requires { at ≤ length frames.now }
     ensures { LineWritten 5 frames.now (stop_of stop) (last_row frames.now at) result out.old out.new }
 {
-    let length = frames.len();
-    let spot = Spot {
-        digits: DIGITS,
-        at,
-        past: length + 1,
-    };
-    let t = told(last_words(at, length), stop, 0, 0, 0);
-    put_line(out, frames, spot, stop, t)
+    let t = told(last_words(at, frames.len()), stop);
+    put_last_line(out, frames, DIGITS, at, stop, t)
 }
 
-// Writes all lines.
+// Writes all lines, or as many as there is room for, and a last one. Those of a hello have no test of the room. No `for`: where the room is
+// short it would have taken one line more than is written.
 fn put_lines(out: &mut [u8], frames: &[u8], stop: Option<Stop>) -> usize
     ensures { RowsWritten frames.now (stop_of stop) result out.old out.new }
 {
-    let mut at: usize = 0;
-    let mut used: usize = 0;
-    // A place and not an item: each line takes as many bytes as its frames have.
-    while at < frames.len() {
-        if out.len() - used < ROOM {
+    let mut lines = Lines { frames, at: 0 };
+    let mut used = 0;
+    while ROOM <= out.len() - used {
+        let Some((at, size)) = lines.next() else {
             break;
-        }
-        let size = line_size(&frames[at..]);
-        used = used + put_row(&mut out[used..], frames, at, size, stop);
-        at = at + size;
+        };
+        used += put_row(&mut out[used..], frames, at, size, stop);
     }
-    used + put_end(&mut out[used..], frames, at, stop)
+    used + put_end(&mut out[used..], frames, lines.at, stop)
 }
 
 // Writes the listing of any frames, of which the joiner's stop is known.

@@ -12,10 +12,10 @@ ghost use Rattle.show_marks.specs.Text.{last_row};
 ghost use Rattle.show_words.specs.Code.{LineWritten, LinesWritten};
 ghost use Rattle.show_hello.specs.Listing.{read_rows, Listed};
 
-use show_lines::cursor::{Cursor, Line, line_at, next, part_end, start};
+use show_lines::cursor::{Cursor, Line, Lines, part_end};
 use show_lines::grammar::Kind;
 use show_marks::put_verdict;
-use show_words::{Spot, put_line};
+use show_words::{Spot, put_last_line, put_line};
 use wire::Stop;
 use words::Shown;
 
@@ -24,14 +24,14 @@ const MOST: usize = 16384;
 
 const DIGITS: usize = 4;
 
-// Writes the line at the cursor.
+// Writes the line at the cursor. What it shares with a line of frames is `put_line`; what is told of it is its own.
 fn put_row(out: &mut [u8], hello: &[u8], c: Cursor, line: Line, stop: Option<Stop>) -> usize
     requires { Ready (length hello.now) (cursor_of c) × Reaches (length hello.now) (cursor_of c) line }
     ensures { LineWritten 4 hello.now (stop_of stop) (row c.at line.end (kind_number c.kind)) result out.old out.new }
 {
     let at = c.at;
     let end = line.end;
-    let left = part_end(hello, c) - at - line.front;
+    let left = part_end(hello, c) - at - line.front.unwrap_or(0);
     let spot = Spot {
         digits: DIGITS,
         at,
@@ -46,6 +46,7 @@ fn put_row(out: &mut [u8], hello: &[u8], c: Cursor, line: Line, stop: Option<Sto
     put_line(out, hello, spot, stop, shown.told(stop))
 }
 
+// Of the end alone: what stands at a cursor show_lines says.
 fn last_kind(at: usize, length: usize) -> Kind {
     if at < length { Kind::After } else { Kind::End }
 }
@@ -58,13 +59,8 @@ fn put_end(out: &mut [u8], hello: &[u8], at: usize, stop: Option<Stop>) -> usize
     let length = hello.len();
     let line = Line {
         end: length,
-        front: 0,
+        front: None,
         said: 0,
-    };
-    let spot = Spot {
-        digits: DIGITS,
-        at,
-        past: length + 1,
     };
     let shown = Shown {
         kind: last_kind(at, length),
@@ -72,7 +68,7 @@ fn put_end(out: &mut [u8], hello: &[u8], at: usize, stop: Option<Stop>) -> usize
         line,
         left: length as u64,
     };
-    put_line(out, hello, spot, stop, shown.told(stop))
+    put_last_line(out, hello, DIGITS, at, stop, shown.told(stop))
 }
 
 // Writes the lines of up to 16,384 bytes.
@@ -80,13 +76,9 @@ fn put_lines(out: &mut [u8], hello: &[u8], stop: Option<Stop>) -> usize
     requires { length hello.now ≤ 16384 }
     ensures { LinesWritten 4 hello.now (stop_of stop) (read_rows hello.now) result out.old out.new }
 {
-    let mut c = start(hello);
-    let mut used: usize = 0;
-    // A place and not an item: each line takes as many bytes as it has.
-    while c.at < hello.len() {
-        let line = line_at(hello, c);
-        used = used + put_row(&mut out[used..], hello, c, line, stop);
-        c = next(hello, c, line);
+    let mut used = 0;
+    for (c, line) in Lines::new(hello) {
+        used += put_row(&mut out[used..], hello, c, line, stop);
     }
     used
 }

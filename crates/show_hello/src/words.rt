@@ -1,5 +1,6 @@
 // What is told of a hello's lines: their words, and of the line at which the reader stopped, why it did.
 ghost use Rattle.std.specs.Prelude.{◌≤◌, length};
+ghost use Rattle.show_lines.specs.Lines.{front_bytes};
 
 use fingerprint::walk;
 use script::reading::all_plain;
@@ -82,7 +83,7 @@ fn line_words(kind: Kind) -> &'static str {
     }
 }
 
-// The rule of document 01 that it breaks where it is as long as it says.
+// The rule of document 01 that it breaks where it is as long as it says. The other kinds have no such rule, and a blank says so.
 fn rule(kind: Kind) -> &'static str {
     match kind {
         Kind::LegacySessionId => "a session id has at most 32 bytes",
@@ -120,13 +121,14 @@ fn depth(part: Part) -> usize {
     }
 }
 
-fn varint_at(bytes: &[u8]) -> u64 {
-    varint::read(bytes).map_or(0, |x| x.value)
+fn varint_at(bytes: &[u8]) -> Option<u64> {
+    varint::read(bytes).ok().map(|x| x.value)
 }
 
 // Whether the value of a parameter is a number.
-fn is_number(id: u64, value: &[u8]) -> bool {
-    NUMBERS.contains(&id) && varint::read(value).is_ok_and(|x| x.width == value.len())
+fn is_number(id: Option<u64>, value: &[u8]) -> bool {
+    id.is_some_and(|x| NUMBERS.contains(&x))
+        && varint::read(value).is_ok_and(|x| x.width == value.len())
 }
 
 // Whether a name is shown: it is plain text and not long.
@@ -156,19 +158,19 @@ pub struct Shown<'a> {
 
 impl<'a> Shown<'a> {
     // The number that has a name in a registry: a parameter's id, or the first two bytes.
-    fn registered(self) -> u64 {
+    fn registered(self) -> Option<u64> {
         if self.kind == Kind::Parameter {
             return varint_at(self.bytes);
         }
         if self.bytes.len() < 2 {
-            return 0;
+            return None;
         }
-        be16(self.bytes) as u64
+        Some(u64::from(be16(self.bytes)))
     }
 
     // Its words; `rest` stands after its front.
-    fn words(self, id: u64, rest: &[u8]) -> &'static str {
-        if self.line.front == 0 {
+    fn words(self, id: Option<u64>, rest: &[u8]) -> &'static str {
+        if self.line.front.is_none() {
             return CUT_LINE;
         }
         match self.kind {
@@ -185,7 +187,7 @@ impl<'a> Shown<'a> {
         self.line.said == 0
             && 2 <= self.bytes.len()
             && !matches!(
-                walk::Kind::of(be16(self.bytes)),
+                walk::Kind::from(be16(self.bytes)),
                 walk::Kind::Parameters | walk::Kind::Other
             )
     }
@@ -196,7 +198,7 @@ impl<'a> Shown<'a> {
         if self.kind == Kind::End {
             return rule(self.kind);
         }
-        if self.line.front == 0 {
+        if self.line.front.is_none() {
             return CUT;
         }
         if self.left < said || is_exact(self.kind) && said != self.left {
@@ -222,23 +224,22 @@ impl<'a> Shown<'a> {
 
     // What is told of it, and of a refusal there.
     pub fn told(self, stop: Option<Stop>) -> Told
-        requires { self.line.front ≤ length self.bytes.now }
+        requires { front_bytes self.line.front ≤ length self.bytes.now }
     {
-        let front = self.line.front;
+        let rest = &self.bytes[self.line.front.unwrap_or(0)..];
         let row = row_of(self.kind);
         let id = self.registered();
         Told {
-            words: self.words(id, &self.bytes[front..]),
-            why: stop.map_or("", |s| self.reason(s.refusal)),
+            words: self.words(id, rest),
+            why: stop.map(|s| self.reason(s.refusal)),
             depth: depth(row.part),
             noun: noun(self.kind),
             part: part_name(row.part),
-            registry: row.registry,
-            id,
-            front,
+            registered: row.registry.zip(id),
+            front: self.line.front,
             said: self.line.said,
             left: self.left,
-            value: varint_at(&self.bytes[front..]),
+            value: varint_at(rest),
         }
     }
 }

@@ -2,7 +2,7 @@
 -- each byte one line. Assumes nothing.
 use Prim.Native.Nat.{ℕ, zero, suc, ◌+◌, ◌-◌, ◌≤◌, ◌<◌, min}
 use mathlib.Core.Path.{◌≡◌, refl, sym, ap, ◌∙◌, subst}
-use mathlib.Core.Bool.{cond, ◌&&◌}
+use mathlib.Core.Bool.{true, cond, ◌&&◌, true≢false}
 use mathlib.Core.Logic.{⊎_elim}
 use mathlib.Core.List.{List, [], ◌∷◌}
 use mathlib.Core.Option.{Option, none, some}
@@ -24,8 +24,10 @@ use Rattle.fingerprint_bodies.specs.Body.{Number}
 use Rattle.fingerprint_bodies.specs.Forms.{varint_at}
 use Rattle.fingerprint_bodies.proofs.BindLaws.{bind-some, cond-some, same_some}
 use Rattle.fingerprint_bodies.proofs.RoundTrip.{varint-back}
+use Rattle.std.specs.Prelude.{Some}
+use Rattle.std.specs.Option.{is_some}
 use Rattle.show_lines.specs.Grammar.{grammar, column}
-use Rattle.show_lines.specs.Lines.{front_of, is_vector, opens, part_end, Front, line, parameter_front, fixed_front, line_from, line_of}
+use Rattle.show_lines.specs.Lines.{front_of, is_vector, opens, part_end, Front, line, front_bytes, parameter_front, fixed_front, line_from, line_of}
 use Rattle.show_lines.specs.Lines.{line_at, inside, opened, due, next, start, Row, listed, most, rows, Tiles, count_holding, Ready, Reaches}
 use Rattle.show_lines.specs.Lines.{Cursor}
 use Rattle.show_lines.specs.declared.cursor.Line.{Line}
@@ -69,7 +71,7 @@ fixed-is what rest f q =
 -- ---- A line that begins at a place, where so many bytes are left of its part
 
 abbrev Goes : ℕ → List ℕ → Line → Type 0
-Goes at rest l = (at < l.end) × (l.end ≤ at + length rest) × (at + l.front ≤ l.end)
+Goes at rest l = (at < l.end) × (l.end ≤ at + length rest) × (at + front_bytes l.front ≤ l.end)
 
 line-from : (what at : ℕ) (rest : List ℕ) (x : Option Front) → 0 < length rest → ((f : Front) → x ≡ some f → Fits rest f)
     → Goes at rest (line_from what at rest x)
@@ -77,7 +79,7 @@ line-from what at rest none h k = (omega arith, omega arith, omega arith)
 line-from what at rest (some f) h k =
     let some_bytes = (k f refl).0 in
     let there = (k f refl).1 in
-    cond-elim (λ (n : ℕ). Goes at rest (line (at + n) f.bytes f.said)) (is_vector what) _ _
+    cond-elim (λ (n : ℕ). Goes at rest (line (at + n) (Some f.bytes) f.said)) (is_vector what) _ _
     (λ t. (omega (arith, some_bytes), omega arith, omega (arith, there)))
     (λ t. (omega (arith, some_bytes), omega (arith, there), omega arith))
 
@@ -110,7 +112,7 @@ module _ (h : List ℕ) (c : Cursor) (r : Ready (length h) c) where
     -- a cursor after a line, before what stands there is settled
     abbrev after : Cursor
     after =
-        cond (opens c.what && ltb 0 l.front)
+        cond (opens c.what && is_some l.front)
         (opened c l.end (inside h c l) (min (l.end + l.said) (part_end (length h) c)))
         (record { at = l.end; what = due h c; list = c.list; body = c.body; block = c.block })
 
@@ -118,7 +120,7 @@ module _ (h : List ℕ) (c : Cursor) (r : Ready (length h) c) where
     after-placed =
         let end = part-within (length h) c r in
         let in-hello : l.end ≤ length h = omega (arith, e.within, end) in
-        cond-elim (Placed (length h) l.end) (opens c.what && ltb 0 l.front) _ _
+        cond-elim (Placed (length h) l.end) (opens c.what && is_some l.front) _ _
         (λ t. opened-within (length h) c r l.end (inside h c l) _ in-hello (omega (arith, end)))
         (λ t. (record { at = in-hello; list = r.list; body = r.body; block = r.block }, refl))
 
@@ -138,18 +140,19 @@ start-ready h =
 
 -- ---- An extension whose front is there has its type there
 
-front-of-nine : (rest : List ℕ) (at : ℕ) → 0 < (line_of 9 rest at).front → (line_of 9 rest at).front ≡ 4
+front-of-nine : (rest : List ℕ) (at : ℕ) → is_some (line_of 9 rest at).front ≡ true → front_bytes (line_of 9 rest at).front ≡ 4
 unfolding line_of fixed_front column grammar
 front-of-nine rest at =
-    cond-elim (λ (x : Option Front). 0 < (line_from 9 at rest x).front → (line_from 9 at rest x).front ≡ 4) (leb 4 (length rest)) _ none
+    cond-elim (λ (x : Option Front). is_some (line_from 9 at rest x).front ≡ true → front_bytes (line_from 9 at rest x).front ≡ 4)
+    (leb 4 (length rest)) _ none
     (λ t k. refl)
-    (λ t k. absurd (omega (arith, k)))
+    (λ t k. absurd (true≢false (sym k)))
 
-front-of-extension : (what : ℕ) (rest : List ℕ) (at : ℕ) → what ≡ 9 → 0 < (line_of what rest at).front
-    → (line_of what rest at).front ≡ 4
+front-of-extension : (what : ℕ) (rest : List ℕ) (at : ℕ) → what ≡ 9 → is_some (line_of what rest at).front ≡ true
+    → front_bytes (line_of what rest at).front ≡ 4
 front-of-extension what rest at w = rw w (front-of-nine rest at)
 
-pub extension-front : (h : List ℕ) (c : Cursor) → c.what ≡ 9 → 0 < (line_at h c).front → (line_at h c).front ≡ 4
+pub extension-front : (h : List ℕ) (c : Cursor) → c.what ≡ 9 → is_some (line_at h c).front ≡ true → front_bytes (line_at h c).front ≡ 4
 unfolding line_at
 extension-front h c w = front-of-extension c.what (take (part_end (length h) c - c.at) (drop c.at h)) c.at w
 

@@ -2,6 +2,9 @@
 -- true, the listing goes on with what is there: a line that is cut takes what is left of its part, and so does a list.
 use Rattle.std.specs.Prelude.{ℕ, zero, suc, ◌+◌, ◌-◌, ◌<◌, ◌≤◌, min, ◌≡◌, Bool, cond, not, ◌&&◌, List, [], ◌∷◌, length, take, drop, get_or, eqb, leb, ltb}
 use Rattle.std.proofs.Math.Option.{Option, none, some}
+use Rattle.std.specs.Prelude.{Some, None}
+use Rattle.std.specs.Prelude as std
+use Rattle.std.specs.Option.{is_some}
 use Rattle.wire.specs.Numbers.{number}
 use Rattle.wire.specs.Sums.{indicator, total}
 use Rattle.fingerprint_bodies.specs.Body.{kind}
@@ -52,7 +55,8 @@ pub record Front : Type 0 where
   pub bytes : ℕ
   pub said : ℕ
 
-abbrev pub line : ℕ → ℕ → ℕ → Line
+-- what the code has of it: no front where it is cut, or where the line takes all that is left
+abbrev pub line : ℕ → std.Option ℕ → ℕ → Line
 line end front said = record { end = end; front = front; said = said }
 
 -- a parameter's front: id and length, "with any varint widths"
@@ -72,13 +76,13 @@ fixed_front what rest =
 -- the line that begins at a place and has these bytes in its part: one whose front is cut takes them all, one that says more than there
 -- are too
 abbrev pub line_from : ℕ → ℕ → List ℕ → Option Front → Line
-line_from what at rest none = line (at + length rest) 0 0
-line_from what at rest (some f) = line (at + cond (is_vector what) (min (f.bytes + f.said) (length rest)) f.bytes) f.bytes f.said
+line_from what at rest none = line (at + length rest) None 0
+line_from what at rest (some f) = line (at + cond (is_vector what) (min (f.bytes + f.said) (length rest)) f.bytes) (Some f.bytes) f.said
 
 unfoldable pub line_of : ℕ → List ℕ → ℕ → Line
 line_of what rest at =
     cond (eqb what 22) (line_from what at rest (parameter_front rest))
-    (cond (eqb (front_of what) 0) (line (at + length rest) 0 0) (line_from what at rest (fixed_front what rest)))
+    (cond (eqb (front_of what) 0) (line (at + length rest) None 0) (line_from what at rest (fixed_front what rest)))
 
 unfoldable pub line_at : List ℕ → Cursor → Line
 line_at h c = line_of c.what (take (part_end (length h) c - c.at) (drop c.at h)) c.at
@@ -131,7 +135,7 @@ due h c = cond (eqb c.what 0 && not (eqb (get_or h c.at 0) 1)) 25 (column c.what
 unfoldable pub next : List ℕ → Cursor → Line → Cursor
 next h c l =
     settle (length h)
-    (cond (opens c.what && ltb 0 l.front)
+    (cond (opens c.what && is_some l.front)
     (opened c l.end (inside h c l) (min (l.end + l.said) (part_end (length h) c)))
     (record { at = l.end; what = due h c; list = c.list; body = c.body; block = c.block }))
 
@@ -184,8 +188,13 @@ pub record Ready (n : ℕ) (c : Cursor) : Type 0 where
   pub block : c.block ≤ n
   pub goes_on : c.at < n → c.at < part_end n c
 
+-- the bytes of a front, where there is one
+abbrev pub front_bytes : std.Option ℕ → ℕ
+front_bytes None = 0
+front_bytes (Some n) = n
+
 -- a line begins at the cursor, has a byte at least, and ends in its part
 pub record Reaches (n : ℕ) (c : Cursor) (l : Line) : Type 0 where
   pub forward : c.at < l.end
   pub within : l.end ≤ part_end n c
-  pub front : c.at + l.front ≤ l.end
+  pub front : c.at + front_bytes l.front ≤ l.end

@@ -1,5 +1,5 @@
 -- What the code has, in the grammar's numbers: a kind of line, a row, a cursor.
-use Rattle.std.specs.Prelude.{ℕ, ◌≡◌, Some, None}
+use Rattle.std.specs.Prelude.{ℕ, ◌≡◌, cond, eqb, Some, None}
 use Rattle.std.specs.Prelude as std
 use Rattle.show_lines.specs.Grammar.{column}
 use Rattle.show_lines.specs.Lines.{Cursor}
@@ -10,8 +10,8 @@ use Rattle.show_lines.specs.declared.grammar.Form.{Form}
 use Rattle.show_lines.specs.declared.grammar.Form.TheVariants as form
 use Rattle.show_lines.specs.declared.grammar.Part.{Part}
 use Rattle.show_lines.specs.declared.grammar.Part.TheVariants as part
-use Rattle.show_lines.specs.declared.grammar.Registry.{Registry}
-use Rattle.show_lines.specs.declared.grammar.Registry.TheVariants as registry
+use Rattle.registries.specs.declared.Registry.{Registry}
+use Rattle.registries.specs.declared.Registry.TheVariants as registry
 use Rattle.show_lines.specs.declared.grammar.Row.{Row}
 
 -- a kind's row
@@ -72,8 +72,12 @@ registry_number (Some registry.Types) = 4
 registry_number (Some registry.Versions) = 5
 registry_number (Some registry.Parameters) = 6
 
+-- the bytes of a front; none where the line takes all that is left
+abbrev pub front_column : ℕ → std.Option ℕ
+front_column n = cond (eqb n 0) None (Some n)
+
 pub record Stands (what : ℕ) (r : Row) : Type 0 where
-  pub front : r.front ≡ column what 0
+  pub front : r.front ≡ front_column (column what 0)
   pub width : r.width ≡ column what 1
   pub form : form_number r.form ≡ column what 2
   pub part : part_number r.part ≡ column what 3

@@ -1,9 +1,10 @@
 // One line after the other: where a line ends, and what stands after it.
-ghost use Rattle.std.specs.Prelude.{◌≡◌, ◌+◌, ◌≤◌, ◌<◌, min, length};
+ghost use Rattle.std.specs.Prelude.{◌≡◌, ◌+◌, ◌≤◌, ◌<◌, min, true, length, None, Some};
+ghost use Rattle.std.specs.Option.{is_some};
 ghost use Rattle.wire.specs.Numbers as numbers;
 ghost use Rattle.show_lines.specs.Grammar.{column};
 ghost use Rattle.show_lines.specs.Lines as specs;
-ghost use Rattle.show_lines.specs.Lines.{part_end, line, line_from, parameter_front, line_of, line_at, Ready, Reaches};
+ghost use Rattle.show_lines.specs.Lines.{part_end, line, line_from, front_bytes, parameter_front, line_of, line_at, Ready, Reaches};
 ghost use Rattle.show_lines.specs.Lines.{after_list, after_body, in_hello};
 ghost use Rattle.show_lines.specs.Rows.{kind_number, cursor_of};
 
@@ -11,7 +12,8 @@ use crate::grammar::{Form, Kind, Part, body_line, row_of};
 use fingerprint::walk;
 use wire::be16;
 
-// A place in the hello, what stands there, and the ends of the parts around it: the list, the body and the block that were last opened.
+// A place in the hello, what stands there, and the ends of the parts around it: the list, the body and the block that were last opened, 0
+// before one is, when no line stands in it.
 #[derive(Clone, Copy, PartialEq, Eq, Debug)]
 pub struct Cursor {
     pub at: usize,
@@ -21,11 +23,12 @@ pub struct Cursor {
     pub block: usize,
 }
 
-// A line: where it ends, the bytes of its front, 0 where these are cut, and the length that it says.
+// A line: where it ends, the bytes of its front, none where these are cut, and the length that it says, 0 where it says none: its words do
+// not name it then.
 #[derive(Clone, Copy, PartialEq, Eq, Debug)]
 pub struct Line {
     pub end: usize,
-    pub front: usize,
+    pub front: Option<usize>,
     pub said: u64,
 }
 
@@ -42,44 +45,39 @@ pub fn part_end(hello: &[u8], c: Cursor) -> usize
     }
 }
 
-// The number in up to three bytes; no method of the library reads one, two or three.
+// The number in up to three bytes.
 fn number(bytes: &[u8]) -> u64
     requires { length bytes.now ≤ 3 }
-    ensures { (result ≡ numbers.number 256 bytes.now) × (result < 16777216) }
+    ensures { result ≡ numbers.number 256 bytes.now }
 {
-    let n = bytes.len();
-    if n == 1 {
-        return u64::from(bytes[0]);
-    }
-    if n == 2 {
-        return u64::from(be16(bytes));
-    }
-    if n == 3 {
-        return u64::from(bytes[0]) * 65536 + u64::from(be16(&bytes[1..]));
-    }
-    0
+    let mut word = [0; 4];
+    word[4 - bytes.len()..].copy_from_slice(bytes);
+    u64::from(u32::from_be_bytes(word))
 }
 
-// A transport parameter: its front are the id and the length.
+// A line that takes all that is left: it has no front, or one that is cut.
+fn rest_line(end: usize) -> Line
+    ensures { result ≡ line end None 0 }
+{
+    Line {
+        end,
+        front: None,
+        said: 0,
+    }
+}
+
+// A transport parameter: its front are the id and the length. That a part ends below 65536 is a fact about a place and the bytes there, here
+// and in the two functions below; a struct of both would be made and taken apart at each call.
 fn parameter(rest: &[u8], at: usize) -> Line
     requires { at + length rest.now ≤ 65536 }
     ensures { result ≡ line_from 22 at rest.now (parameter_front rest.now) }
 {
-    let end = at + rest.len();
     let Ok(id) = varint::read(rest) else {
-        return Line {
-            end,
-            front: 0,
-            said: 0,
-        };
+        return rest_line(at + rest.len());
     };
     let w = id.width;
     let Ok(length) = varint::read(&rest[w..]) else {
-        return Line {
-            end,
-            front: 0,
-            said: 0,
-        };
+        return rest_line(at + rest.len());
     };
     vector(rest.len(), at, w + length.width, length.value)
 }
@@ -87,18 +85,12 @@ fn parameter(rest: &[u8], at: usize) -> Line
 // A line whose front says how many bytes follow on it, of so many that are left from its start on.
 fn vector(left: usize, at: usize, front: usize, said: u64) -> Line
     requires { (front ≤ left) × (at + left ≤ 65536) }
-    ensures { result ≡ line (at + min (front + said) left) front said }
+    ensures { result ≡ line (at + min (front + said) left) (Some front) said }
 {
-    if ((left - front) as u64) < said {
-        return Line {
-            end: at + left,
-            front,
-            said,
-        };
-    }
+    let inside = said.min((left - front) as u64) as usize;
     Line {
-        end: at + front + said as usize,
-        front,
+        end: at + front + inside,
+        front: Some(front),
         said,
     }
 }
@@ -112,33 +104,26 @@ fn line_of(kind: Kind, rest: &[u8], at: usize) -> Line
         return parameter(rest, at);
     }
     let row = row_of(kind);
-    let front = row.front;
-    if front == 0 {
-        return Line {
-            end: at + rest.len(),
-            front: 0,
-            said: 0,
-        };
-    }
+    let Some(front) = row.front else {
+        return rest_line(at + rest.len());
+    };
     if rest.len() < front {
-        return Line {
-            end: at + rest.len(),
-            front: 0,
-            said: 0,
-        };
+        return rest_line(at + rest.len());
     }
-    let width = row.width;
-    let said = number(&rest[front - width..front]);
+    let said = number(&rest[front - row.width..front]);
     match row.form {
         Form::Vector => vector(rest.len(), at, front, said),
         _ => Line {
             end: at + front,
-            front,
+            front: Some(front),
             said,
         },
     }
 }
 
+// The line at the cursor. What stands there is asked where a line begins, by `Lines::next`, whose test of the place is what this, `due` and
+// `next` require. Hello and cursor go side by side, as the definitions have them (specs/Lines.antt): a cursor is made anew at each step, and that
+// it is `Ready` would as a ghost field need the hello's length in each.
 pub fn line_at(hello: &[u8], c: Cursor) -> Line
     requires { (length hello.now ≤ 65536) × Ready (length hello.now) (cursor_of c) × (c.at < length hello.now) }
     ensures { (result ≡ line_at hello.now (cursor_of c)) × Reaches (length hello.now) (cursor_of c) result }
@@ -210,12 +195,12 @@ fn settle(n: usize, c: Cursor) -> Cursor
 // The kind of line inside the one at a place, which its row calls `first`. An extension's type says it; suites that say more than is
 // left are not listed.
 fn inside(hello: &[u8], c: Cursor, line: Line, first: Kind) -> Kind
-    requires { (line.end ≤ length hello.now) × (c.at + line.front ≤ line.end) × (0 < line.front) × (line ≡ line_at hello.now (cursor_of c)) × (kind_number first ≡ column (kind_number c.kind) 4) }
+    requires { (line.end ≤ length hello.now) × (c.at + front_bytes line.front ≤ line.end) × (is_some line.front ≡ true) × (line ≡ line_at hello.now (cursor_of c)) × (kind_number first ≡ column (kind_number c.kind) 4) }
     ensures { kind_number result ≡ specs.inside hello.now (cursor_of c) line }
 {
     let at = c.at;
     match c.kind {
-        Kind::Extension => body_line(walk::Kind::of(be16(&hello[at..]))),
+        Kind::Extension => body_line(walk::Kind::from(be16(&hello[at..]))),
         Kind::CipherSuites => if ((hello.len() - line.end) as u64) < line.said {
             Kind::After
         } else {
@@ -270,15 +255,12 @@ fn due(hello: &[u8], c: Cursor) -> Kind
     }
 }
 
-// The least of what is left after a line and what it says.
+// The place up to which a line's inside reaches: what it says or what is left, as in `vector`, where the front counts too.
 fn inner_end(line: Line, limit: usize) -> usize
     requires { line.end ≤ limit }
     ensures { result ≡ min (line.end + line.said) limit }
 {
-    if ((limit - line.end) as u64) < line.said {
-        return limit;
-    }
-    line.end + line.said as usize
+    line.end + line.said.min((limit - line.end) as u64) as usize
 }
 
 // The cursor after a line.
@@ -288,7 +270,7 @@ pub fn next(hello: &[u8], c: Cursor, line: Line) -> Cursor
 {
     let n = hello.len();
     match row_of(c.kind).form {
-        Form::Opens(first) if 0 < line.front => {
+        Form::Opens(first) if line.front.is_some() => {
             let end = inner_end(line, part_end(hello, c));
             settle(n, opened(c, line.end, inside(hello, c, line, first), end))
         }
@@ -320,4 +302,49 @@ pub fn start(hello: &[u8]) -> Cursor
             block: 0,
         },
     )
+}
+
+// The lines of a hello: the cursor at each, and the line.
+#[derive(Drop)]
+pub struct Lines<'a> {
+    hello: &'a [u8],
+    cursor: Cursor,
+}
+
+impl<'a> Lines<'a> {
+    ghost use Rattle.show_lines.specs.Steps.{Begins};
+
+    pub fn new(hello: &'a [u8]) -> Lines<'a>
+        requires { length hello.now ≤ 65536 }
+        ensures { Begins hello.now result }
+    {
+        Lines {
+            hello,
+            cursor: start(hello),
+        }
+    }
+}
+
+impl<'a> Iterator for Lines<'a> {
+    ghost use Rattle.std.specs.Prelude.{◌-◌, length};
+    ghost use Rattle.std.specs.Iterator.{at_most};
+    ghost use Rattle.show_lines.specs.Steps.{GoesOn, GivesLine};
+
+    type Item = (Cursor, Line);
+
+    ghost can_next = { GoesOn };
+
+    ghost next_gives = { GivesLine };
+
+    ghost remaining = { λ s. at_most (length s.hello.now - s.cursor.at) };
+
+    fn next(&mut self) -> Option<(Cursor, Line)> {
+        let c = self.cursor;
+        if self.hello.len() <= c.at {
+            return None;
+        }
+        let line = line_at(self.hello, c);
+        self.cursor = next(self.hello, c, line);
+        Some((c, line))
+    }
 }

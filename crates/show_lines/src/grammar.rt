@@ -14,6 +14,7 @@ use Kind::{
 };
 use Part::{Block, Body, Hello, List, Suites};
 use fingerprint::walk;
+use registries::Registry;
 
 // The kinds of lines. `Unread` is a body that is not read, `Rest` what is left of a body, `After` what is left of the hello.
 #[derive(Clone, Copy, PartialEq, Eq, Debug)]
@@ -66,22 +67,11 @@ pub enum Part {
     List,
 }
 
-// The registries that name numbers.
-#[derive(Clone, Copy, PartialEq, Eq, Debug)]
-pub enum Registry {
-    Suites,
-    Groups,
-    Algorithms,
-    Types,
-    Versions,
-    Parameters,
-}
-
-// What may stand on a line: the bytes of its front, 0 where it takes all that is left; how many of these, the last, are a length; its
+// What may stand on a line: the bytes of its front, none where it takes all that is left; how many of these, the last, are a length; its
 // form and part; the kind of line that follows; and the registry of its number.
 #[derive(Clone, Copy, PartialEq, Eq, Debug)]
 pub struct Row {
-    pub front: usize,
+    pub front: Option<usize>,
     pub width: usize,
     pub form: Form,
     pub part: Part,
@@ -90,7 +80,7 @@ pub struct Row {
 }
 
 fn entry(
-    front: usize,
+    front: Option<usize>,
     width: usize,
     form: Form,
     part: Part,
@@ -115,33 +105,54 @@ pub fn row_of(kind: Kind) -> Row
     ensures { Stands (kind_number kind) result }
 {
     match kind {
-        MsgType => entry(1, 0, Plain, Hello, Length, None),
-        Length => entry(3, 3, Plain, Hello, LegacyVersion, None),
-        LegacyVersion => entry(2, 0, Plain, Hello, Random, Some(Registry::Versions)),
-        Random => entry(32, 0, Plain, Hello, LegacySessionId, None),
-        LegacySessionId => entry(1, 1, Vector, Hello, CipherSuites, None),
-        CipherSuites => entry(2, 2, Opens(Suite), Hello, LegacyCompressionMethods, None),
-        Suite => entry(2, 0, Plain, Suites, Suite, Some(Registry::Suites)),
-        LegacyCompressionMethods => entry(1, 1, Vector, Hello, ExtensionBlock, None),
-        ExtensionBlock => entry(2, 2, Opens(Extension), Hello, After, None),
-        Extension => entry(4, 2, Opens(Unread), Block, Extension, Some(Registry::Types)), // inside is what its type says
-        ServerNameList => entry(2, 2, Opens(ServerName), Body, Rest, None),
-        ServerName => entry(3, 2, Vector, List, ServerName, None),
-        NamedGroupList => entry(2, 2, Opens(Group), Body, Rest, None),
-        Group => entry(2, 0, Plain, List, Group, Some(Registry::Groups)),
-        SupportedSignatureAlgorithms => entry(2, 2, Opens(Algorithm), Body, Rest, None),
-        Algorithm => entry(2, 0, Plain, List, Algorithm, Some(Registry::Algorithms)),
-        ProtocolNameList => entry(2, 2, Opens(ProtocolName), Body, Rest, None),
-        ProtocolName => entry(1, 1, Vector, List, ProtocolName, None),
-        VersionList => entry(1, 1, Opens(Version), Body, Rest, None),
-        Version => entry(2, 0, Plain, List, Version, Some(Registry::Versions)),
-        ClientShares => entry(2, 2, Opens(KeyShare), Body, Rest, None),
-        KeyShare => entry(4, 2, Vector, List, KeyShare, Some(Registry::Groups)),
-        Parameter => entry(0, 0, Vector, Body, Parameter, Some(Registry::Parameters)), // its front is two varints
-        Unread => entry(0, 0, Plain, Body, Rest, None),
-        Rest => entry(0, 0, Plain, Body, Rest, None),
-        After => entry(0, 0, Plain, Hello, After, None),
-        End => entry(0, 0, Plain, Hello, End, None),
+        MsgType => entry(Some(1), 0, Plain, Hello, Length, None),
+        Length => entry(Some(3), 3, Plain, Hello, LegacyVersion, None),
+        LegacyVersion => entry(Some(2), 0, Plain, Hello, Random, Some(Registry::Versions)),
+        Random => entry(Some(32), 0, Plain, Hello, LegacySessionId, None),
+        LegacySessionId => entry(Some(1), 1, Vector, Hello, CipherSuites, None),
+        CipherSuites => entry(
+            Some(2),
+            2,
+            Opens(Suite),
+            Hello,
+            LegacyCompressionMethods,
+            None,
+        ),
+        Suite => entry(Some(2), 0, Plain, Suites, Suite, Some(Registry::Suites)),
+        LegacyCompressionMethods => entry(Some(1), 1, Vector, Hello, ExtensionBlock, None),
+        ExtensionBlock => entry(Some(2), 2, Opens(Extension), Hello, After, None),
+        Extension => entry(
+            Some(4),
+            2,
+            Opens(Unread),
+            Block,
+            Extension,
+            Some(Registry::Types),
+        ), // inside is what its type says
+        ServerNameList => entry(Some(2), 2, Opens(ServerName), Body, Rest, None),
+        ServerName => entry(Some(3), 2, Vector, List, ServerName, None),
+        NamedGroupList => entry(Some(2), 2, Opens(Group), Body, Rest, None),
+        Group => entry(Some(2), 0, Plain, List, Group, Some(Registry::Groups)),
+        SupportedSignatureAlgorithms => entry(Some(2), 2, Opens(Algorithm), Body, Rest, None),
+        Algorithm => entry(
+            Some(2),
+            0,
+            Plain,
+            List,
+            Algorithm,
+            Some(Registry::Algorithms),
+        ),
+        ProtocolNameList => entry(Some(2), 2, Opens(ProtocolName), Body, Rest, None),
+        ProtocolName => entry(Some(1), 1, Vector, List, ProtocolName, None),
+        VersionList => entry(Some(1), 1, Opens(Version), Body, Rest, None),
+        Version => entry(Some(2), 0, Plain, List, Version, Some(Registry::Versions)),
+        ClientShares => entry(Some(2), 2, Opens(KeyShare), Body, Rest, None),
+        KeyShare => entry(Some(4), 2, Vector, List, KeyShare, Some(Registry::Groups)),
+        Parameter => entry(None, 0, Vector, Body, Parameter, Some(Registry::Parameters)), // its front is two varints
+        Unread => entry(None, 0, Plain, Body, Rest, None),
+        Rest => entry(None, 0, Plain, Body, Rest, None),
+        After => entry(None, 0, Plain, Hello, After, None),
+        End => entry(None, 0, Plain, Hello, End, None),
     }
 }
 

@@ -63,7 +63,8 @@ fn put_place(out: &mut [u8], marked: bool, width: usize, at: usize) -> usize
     n + put_digits(&mut out[n..], width, at as u64)
 }
 
-// How many blanks fill a column of 22 after the first bytes of a long run and its length.
+// How many blanks fill a column of 22 after the first bytes of a long run and its length. Not by the width of the number: a run of 9 is filled
+// like one of 10 to 99.
 fn filling(length: usize) -> usize
     ensures { result ≡ specs.filling length }
 {

@@ -5,16 +5,15 @@
 
 ghost use Rattle.std.specs.Prelude.{ℕ, ◌≤◌, length};
 ghost use Rattle.show_lines.specs.Lines.{row};
+ghost use Rattle.show_marks.specs.Text.{last_row};
 ghost use Rattle.wire.specs.Refusals.{question};
 ghost use Rattle.wire.specs.Stops.{stop_of};
 ghost use Rattle.show_words.specs.Code.{Wrote, ReasonWritten, LineWritten};
 
-use registries::suites::put_suite;
-use registries::tables::{put_algorithm, put_group, put_parameter, put_type, put_version};
+use registries::Registry;
 use script_writing::names::put_name;
 use script_writing::numbers::put_decimal;
 use script_writing::texts::{put_number, put_text};
-use show_lines::grammar::Registry;
 use show_marks::{is_marked, put_front};
 use wire::{Refusal, Stop};
 
@@ -27,21 +26,21 @@ pub struct Spot {
 }
 
 // What is told of a line: its words and why the reader stopped at it, both phrases, and what these may name: how deep the line is
-// nested, what it and its part are called, a number and the registry that names it, if one does, the bytes of its front, the length that it says,
-// how many bytes are left, and a value.
+// nested, what it and its part are called, a number with the registry that names it, the bytes of its front, the length that it says,
+// how many bytes are left or where a frame ends, and a value. A phrase that names the length or what is left is one of a line that has them, so these two are
+// no Option, which each of the five pieces that write them would open.
 #[derive(Clone, Copy, Debug)]
 pub struct Told {
     pub words: &'static str,
-    pub why: &'static str,
+    pub why: Option<&'static str>,
     pub depth: usize,
     pub noun: &'static str,
     pub part: &'static str,
-    pub registry: Option<Registry>,
-    pub id: u64,
-    pub front: usize,
+    pub registered: Option<(Registry, u64)>,
+    pub front: Option<usize>,
     pub said: u64,
     pub left: u64,
-    pub value: u64,
+    pub value: Option<u64>,
 }
 
 // Writes some words.
@@ -74,19 +73,15 @@ fn put_by_count(out: &mut [u8], n: u64, one: &str, other: &str) -> usize
     }
 }
 
-// Writes two blanks, and two more for each part around the line: a depth, and no kind.
+// Writes two blanks, and two more for each part around the line, of which there are up to three.
 fn put_indent(out: &mut [u8], depth: usize) -> usize
     ensures { Wrote result out.old out.new }
 {
-    match depth {
-        0 => put_some(out, "  "),
-        1 => put_some(out, "    "),
-        2 => put_some(out, "      "),
-        _ => put_some(out, "        "),
-    }
+    put_text(out, &b"        "[..2 * depth.min(3) + 2])
 }
 
-// Whether a number is one of those that are kept free: both bytes xa, x the same (RFC 8701).
+// Whether a number is one of those that are kept free: both bytes xa, x the same (RFC 8701). It stays a number, so there is nothing to
+// convert.
 fn is_grease(v: u64) -> bool {
     v / 256 == v % 256 && v % 16 == 10
 }
@@ -96,34 +91,43 @@ fn is_reserved(id: u64) -> bool {
     id % 31 == 27
 }
 
-// Writes the name that a registry gives to a number. A match with a line for each: a table of functions would be no plainer.
-fn put_registered(out: &mut [u8], registry: Option<Registry>, v: u64) -> usize
+// Writes the name that a registry gives to a number.
+fn put_registered(out: &mut [u8], registered: Option<(Registry, u64)>) -> usize
     ensures { Wrote result out.old out.new }
 {
-    let Some(registry) = registry else {
+    let Some((registry, v)) = registered else {
         return 0;
     };
-    match registry {
-        Registry::Suites => put_suite(out, is_grease(v) as usize, v),
-        Registry::Groups => put_group(out, is_grease(v) as usize, v),
-        Registry::Algorithms => put_algorithm(out, is_grease(v) as usize, v),
-        Registry::Types => put_type(out, is_grease(v) as usize, v),
-        Registry::Versions => put_version(out, is_grease(v) as usize, v),
-        Registry::Parameters => put_parameter(out, is_reserved(v) as usize, v),
-    }
+    let grease = if registry == Registry::Parameters {
+        is_reserved(v)
+    } else {
+        is_grease(v)
+    };
+    registry.put_name(out, grease, v)
 }
 
 // Writes the bytes after a line's front as a name.
-fn put_after(out: &mut [u8], bytes: &[u8], front: usize) -> usize
+fn put_after(out: &mut [u8], bytes: &[u8], front: Option<usize>) -> usize
     ensures { Wrote result out.old out.new }
 {
-    if bytes.len() < front {
-        return 0;
+    match front.and_then(|n| bytes.get(n..)) {
+        Some(name) => put_name(out, name),
+        None => 0,
     }
-    put_name(out, &bytes[front..])
 }
 
-// Writes what a byte of a phrase stands for. A match with a line for each: a table of functions would be no plainer.
+fn put_value(out: &mut [u8], value: Option<u64>) -> usize
+    ensures { Wrote result out.old out.new }
+{
+    match value {
+        Some(n) => put_numeral(out, n),
+        None => 0,
+    }
+}
+
+// Writes what a byte of a phrase stands for. A match with a line for each: a table of functions would be no plainer. A phrase is a text and
+// no list of an enum's pieces, which would take a line for each piece where a text reads as what is said. The bytes go beside what is told,
+// since who tells it need not hold them.
 fn put_piece(out: &mut [u8], piece: u8, told: Told, bytes: &[u8]) -> usize
     ensures { Wrote result out.old out.new }
 {
@@ -131,14 +135,14 @@ fn put_piece(out: &mut [u8], piece: u8, told: Told, bytes: &[u8]) -> usize
         b'<' => put_indent(out, told.depth),
         b'@' => put_some(out, told.noun),
         b'&' => put_some(out, told.part),
-        b'=' => put_registered(out, told.registry, told.id),
+        b'=' => put_registered(out, told.registered),
         b'"' => put_after(out, bytes, told.front),
         b'#' => put_numeral(out, told.said),
         b'$' => put_by_count(out, told.said, "byte", "bytes"),
         b'+' => put_numeral(out, told.left),
         b'~' => put_by_count(out, told.left, "byte", "bytes"),
         b'^' => put_by_count(out, told.left, "is", "are"),
-        b'%' => put_numeral(out, told.value),
+        b'%' => put_value(out, told.value),
         _ => put_byte(out, piece),
     }
 }
@@ -160,10 +164,14 @@ fn put_reason(out: &mut [u8], refusal: Refusal, told: Told, bytes: &[u8]) -> usi
 {
     let n = put_number(out, b"  -- ", refusal.number());
     let m = n + put_text(&mut out[n..], b": ");
-    m + put_phrase(&mut out[m..], told.why, told, bytes)
+    match told.why {
+        Some(why) => m + put_phrase(&mut out[m..], why, told, bytes),
+        None => m,
+    }
 }
 
-// Writes the line of an input's bytes that stands at a place, of whatever kind.
+// Writes the line of an input's bytes that stands at a place, of whatever kind. Output, input and stop go one by one, here, in show_hello and
+// in show_frames: each contract speaks of each, and a struct would only put a name before each.
 pub fn put_line(out: &mut [u8], input: &[u8], spot: Spot, stop: Option<Stop>, told: Told) -> usize
     requires { (spot.at ≤ length input.now) × (spot.at ≤ spot.past) }
     ensures { (what : ℕ) → LineWritten spot.digits input.now (stop_of stop) (row spot.at spot.past what) result out.old out.new }
@@ -178,4 +186,24 @@ pub fn put_line(out: &mut [u8], input: &[u8], spot: Spot, stop: Option<Stop>, to
         Some(s) if marked => m + put_reason(&mut out[m..], s.refusal, told, bytes),
         _ => m,
     }
+}
+
+// Writes the last line of an input, which begins at a place: the input's end, or what is left of it.
+pub fn put_last_line(
+    out: &mut [u8],
+    input: &[u8],
+    digits: usize,
+    at: usize,
+    stop: Option<Stop>,
+    told: Told,
+) -> usize
+    requires { at ≤ length input.now }
+    ensures { LineWritten digits input.now (stop_of stop) (last_row input.now at) result out.old out.new }
+{
+    let spot = Spot {
+        digits,
+        at,
+        past: input.len() + 1,
+    };
+    put_line(out, input, spot, stop, told)
 }

@@ -1,4 +1,7 @@
-// The tape in place of `impl RngCore` (tls.rs): the random bytes are lent, and a draw says where on the tape it begins.
+// The tape in place of `impl RngCore` (tls.rs): the random bytes are lent, and a draw says where on the tape it begins. Tape and place are
+// two arguments and no struct, as each definition has them (specs/Tape.antt). In a struct by value each clause would name two fields for
+// them (`tape.entry.bytes.now tape.entry.at` for `tape.now at`); with a place in a `&mut Tape` that draws move on, each contract says besides
+// that the bytes stay and how far the place moved, and a parameter, whose draws have a place of their own, needs a tape of its own.
 #![tactic(auto)]
 
 ghost use Rattle.std.specs.Prelude.{◌≡◌, ◌+◌, ◌%◌, ◌^◌, ◌≤◌, ◌<◌, length};
@@ -17,9 +20,7 @@ pub fn next_u64(tape: &[u8], at: usize) -> u64
     requires { at + 8 ≤ length tape.now }
     ensures { (result ≡ next_u64 tape.now at) × (result < 2 ^ 64) }
 {
-    let mut bytes = [0; 8];
-    bytes.copy_from_slice(&tape[at..at + 8]);
-    u64::from_le_bytes(bytes)
+    u64::from_le_bytes(*tape[at..].first_chunk().unwrap())
 }
 
 // Copies the next n bytes to the front of the output.
@@ -38,7 +39,8 @@ fn place_up_to(tape: &[u8], at: usize, i: usize) -> usize
     (next_u64(tape, at) % (i as u64 + 1)) as usize
 }
 
-// Fisher-Yates, from the last place down to 1; gives the place on the tape after its last draw.
+// Fisher-Yates, from the last place down to 1; gives the place on the tape after its last draw. `next` is a place on the tape and no index.
+// Over `(1..v.len()).rev().zip(tape[at..].chunks_exact(8))` the proof stops: of such a loop it is not known which i comes with which chunk.
 pub fn shuffle<T>(v: &mut [T], tape: &[u8], at: usize) -> usize
     requires { (length v.old < 65536) × (after_shuffle (length v.old) at ≤ length tape.now) }
     ensures { (result ≡ after_shuffle (length v.old) at) × ((d : T) → v.new ≡ shuffle d v.old tape.now at) }
@@ -73,7 +75,8 @@ fn grease_byte(b: u8) -> u8
     b / 16 * 16 + 10
 }
 
-// The value of 0x11: the chosen version, four GREASE bytes of one draw, the chosen version among those that are available.
+// The value of 0x11: the chosen version, four GREASE bytes of one draw, the chosen version among those that are available. The twelve
+// bytes are written out: no method puts arrays together without a heap.
 pub fn version_information(version: u32, draw: u64) -> [u8; 12]
     ensures { result ≡ version_information version draw }
 {

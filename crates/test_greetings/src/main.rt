@@ -12,7 +12,8 @@ use third_demand::{Outcome, Side, two_greetings};
 use tls::making::generate_client_hello;
 use wire::Refusal;
 
-// The frames of a hello that is made here, at the front of the output: how many bytes they have.
+// The frames of a hello that is made here, at the front of the output: how many bytes they have. None of these is refused; if one were, its
+// line would say that no hello was joined.
 fn put_frames(browser: u64, name: &[u8], scid: &[u8], tape: &[u8], c: u64, out: &mut [u8]) -> usize
     ensures { result ≤ length out.old }
 {
@@ -31,6 +32,7 @@ fn number_of(report: Result<Fingerprint, Refusal>) -> u64 {
     }
 }
 
+// What stands on a line, one by one.
 fn say(
     rt: &impl Print,
     browser: u64,

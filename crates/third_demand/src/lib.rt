@@ -39,8 +39,8 @@ pub struct Outcome {
     pub alike: bool,
 }
 
-// The parts of a side, one by one: of a slice in a struct it is not known that its elements are bytes, which the demand asks of connection
-// id and tape.
+// The parts of a side, one by one: of a slice in a struct it is not known that its elements are bytes, so the clause `bytes` does not close over
+// a `Side`. What a side writes to goes beside it, for a `Side` is copied and a `&mut` is not.
 fn greet(
     browser: u64,
     name: &[u8],

@@ -1,63 +1,36 @@
 -- What the writers take from a profile, and extensions by type and in a row. Assumes nothing.
-use Prim.Native.Nat.{ℕ, ◌+◌, ◌*◌, ◌≤◌, ◌<◌}
+use Prim.Native.Nat.{ℕ, ◌+◌, ◌≤◌, ◌<◌}
 use mathlib.Core.Path.{◌≡◌}
 use mathlib.Core.Logic.{◌≢◌}
 use mathlib.Core.Bool.{true}
-use mathlib.Core.List.{List}
+use mathlib.Core.List.{List, [], ◌∷◌}
 use native.Mathlib.Numerals.{add-one}
 use native.Mathlib.Omega.{arith}
-use denote.Laws.{Is}
-use denote.Struct.Declared.{row}
-use mir.Val.{Val}
 use lib.ListN.{length, take, drop, get_or}
-use lib.Seq.{drop-cons, length-take-le}
+use lib.Seq.{drop-cons}
+use Rattle.std.proofs.lemmas.List.{length-take}
 use Rattle.wire.specs.Front.{Put}
 use Rattle.profiles.specs.Profile.{Parameter, varint, bytes, version_info, scid_source, grease, Profile}
 use Rattle.profiles.specs.Test.{parameter_ok, passes}
 use Rattle.profiles.specs.Code.{profile_of, Sound}
 use Rattle.profiles.specs.declared.Profile as code
-use Rattle.profiles.specs.contracts.Profile.{the_type}
-use Rattle.profiles.proofs.TestLaws.{all-at, passed, varint-ok, bytes_ok, version-info-ok, scid-source-ok}
+use Rattle.profiles.proofs.TestLaws.{all-at, passed, name-ok, name_ok, varint-ok, bytes_ok, version-info-ok, scid-source-ok}
 use Rattle.tape.specs.Part.{undrawn, followed, Room, Puts}
 use Rattle.tape.specs.declared.Wrote.{Wrote}
-use Rattle.tls_extensions.specs.Extensions.{ext_u16_list, fixed_extension}
-use Rattle.tls_extensions.proofs.LengthLaws.{length-u16-list}
+use Rattle.tls_extensions.specs.Extensions.{fixed_extension}
 use Rattle.tls_parameters.specs.Writing.{HasVarints, AllVarints}
 use Rattle.tls.specs.Hello.{build_extension, build_extensions}
 
--- ---- a list of a profile: the first k of an array of n, lent as `&list[..k]`
+-- ---- a list of a profile, the first k of an array
 
--- what owning a profile tells of its arrays
-pub record Arrays (p : code.Profile) : Type 0 where
-  pub suites : length p.cipher_suites ≡ 16
-  pub types : length p.extensions_order ≡ 16
-  pub groups : length p.supported_groups ≡ 8
-  pub algorithms : length p.signature_algorithms ≡ 16
-  pub versions : length p.supported_versions ≡ 4
-  pub shares : length p.key_share_groups ≡ 4
-  pub protocol : length p.alpn ≡ 2
-  pub parameters : length p.quic_tp ≡ 16
+pub length-first : {A : Type 0} (k : ℕ) (l : List A) → length (take k l) ≤ k
+length-first k l = omega (arith, length-take k l)
 
-pub arrays : (p : code.Profile) {vs : List Val} → Is (row the_type) p vs → Arrays p
-arrays p owned =
-    let each = owned.1.1 in
-    record {
-      suites = each.0.1.0.1;
-      types = each.1.1.0.1.0.1;
-      groups = each.1.1.1.1.0.1.0.1;
-      algorithms = each.1.1.1.1.1.1.0.1.0.1;
-      versions = each.1.1.1.1.1.1.1.1.0.1.0.1;
-      shares = each.1.1.1.1.1.1.1.1.1.1.0.1.0.1;
-      protocol = each.1.1.1.1.1.1.1.1.1.1.1.1.0.1.0.1;
-      parameters = each.1.1.1.1.1.1.1.1.1.1.1.1.1.0.1.0.1;
-    }
-
--- what `ext_u16_list` asks for
-pub words-room : (t : ℕ) (list : List ℕ) {k room : ℕ} → k ≤ length list → k ≤ 16 → length (ext_u16_list t (take k list)) ≤ room
-    → (6 + 2 * length (take k list) ≤ room) × (2 * length (take k list) < 65530)
-words-room t list {k} h few fits =
-    let long = length-take-le k list h in
-    (omega (arith, length-u16-list t (take k list)), omega arith)
+-- the one protocol has a name of at most 255 bytes
+pub protocol-short : (p : code.Profile) → Sound p → length p.alpn < 256
+protocol-short p sound =
+    let ok = all-at name_ok (p.alpn ∷ []) [] (passed (profile_of p) sound.test).protocols-ok 0 (omega arith) in
+    omega (arith, (name-ok p.alpn ok).0.below)
 
 -- ---- a writer that draws nothing
 

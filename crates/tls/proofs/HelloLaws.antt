@@ -1,10 +1,9 @@
 -- The parts of a hello: the fields before the extensions, the block of extensions, the body, and the whole. Assumes nothing.
-use Prim.Native.Nat.{ℕ, suc, ◌+◌, ◌*◌, ◌≤◌, ◌<◌}
+use Prim.Native.Nat.{ℕ, suc, ◌+◌, ◌-◌, ◌*◌, ◌≤◌, ◌<◌}
 use mathlib.Core.Path.{◌≡◌, refl, sym, ap, ◌∙◌}
 use mathlib.Core.List.{List, [], ◌∷◌, ◌++◌, append_assoc, map}
-use native.Mathlib.Nat.{mod-eq_of_lt}
 use native.Mathlib.Omega.{arith}
-use lib.ListN.{length, length-append}
+use lib.ListN.{length, take, drop, length-append}
 use Rattle.wire.specs.Front.{front, Put}
 use Rattle.wire.specs.Numbers.{digits}
 use Rattle.wire.specs.Vectors.{vector, words}
@@ -20,18 +19,13 @@ use Rattle.profiles.specs.declared.Profile as code
 use Rattle.tape.specs.Tape.{rand_bytes}
 use Rattle.tape.specs.Part.{Puts}
 use Rattle.tape.specs.declared.Wrote.{Wrote}
-use Rattle.tape.proofs.DrawLaws.{length-rand_bytes}
+use Rattle.tape.proofs.DrawLaws.{length-rand_bytes, rand_bytes-part}
 use Rattle.tape.proofs.PartLaws.{headed-part}
 use Rattle.tls.specs.Hello.{build_extensions, fields, block, body, hello}
 use Rattle.tls.specs.Writing.{ExtensionsRoom, counted_block, BlockRoom, BodyRoom, HelloRoom}
 use Rattle.tls.proofs.OrderLaws.{Ordered}
 
 -- ---- the fields before the extensions
-
--- a number below 256 is its one digit
-one-digit : (n : ℕ) → n < 256 → digits 256 1 n ≡ n ∷ []
-unfolding digits
-one-digit n h = rw (mod-eq_of_lt h)
 
 -- version and random
 abbrev pub opening : List ℕ → List ℕ
@@ -43,17 +37,9 @@ length-opening tape = omega (arith, length-append (digits 256 2 771) (rand_bytes
 pub length-session : (n : ℕ) (tape : List ℕ) → length (vector 1 (rand_bytes n tape 32)) ≡ 1 + n
 length-session n tape = omega (arith, length-vector 1 (rand_bytes n tape 32), length-rand_bytes n tape 32)
 
-pub session-is : (n : ℕ) (tape : List ℕ) → n < 256 → (n ∷ []) ++ rand_bytes n tape 32 ≡ vector 1 (rand_bytes n tape 32)
-unfolding vector
-session-is n tape h = rw (length-rand_bytes n tape 32, one-digit n h)
-
 -- the suites with their length, and the one compression method
 abbrev pub closing : List ℕ → List ℕ
 closing suites = vector 2 (words suites) ++ vector 1 (0 ∷ [])
-
-pub closing-is : (suites : List ℕ) → digits 256 2 (2 * length suites) ++ (words suites ++ (1 ∷ 0 ∷ [])) ≡ closing suites
-unfolding vector digits
-closing-is suites = rw (length-words suites) (sym (append_assoc (digits 256 2 (2 * length suites)) (words suites) (1 ∷ 0 ∷ [])))
 
 pub length-closing : (suites : List ℕ) → length (closing suites) ≡ 4 + 2 * length suites
 length-closing suites =
@@ -85,12 +71,17 @@ module _ (p : Profile) (tape : List ℕ) {s : ℕ} (e : s ≡ session_length p) 
       let rest : List ℕ = vector 1 (rand_bytes (session_length p) tape 32) ++ closing p.cipher_suites in
       rw (e, ← fields-is p tape) (first-written (opening tape) rest (rw (fields-is p tape) h) (filled (length-opening tape) n))
 
+  -- the session id, which was drawn from the place after the random
+  pub drawn-session : {old new : List ℕ} {n : ℕ} → 32 + s ≤ length tape → Put (vector 1 (take (32 + s - 32) (drop 32 tape))) n old new
+      → Put (vector 1 (rand_bytes s tape 32)) n old new
+  drawn-session h p =
+      let count : 32 + s - 32 ≡ s = omega arith in
+      rw (count, ← (rand_bytes-part s tape 32 h)) at p
+
   -- and the session id
-  pub session-stands : {old out part : List ℕ} → Writing (fields p tape) (vector 1 (rand_bytes s tape 32) ++ closing p.cipher_suites) old out 34
-      → part ≡ front (vector 1 (rand_bytes s tape 32)) (lent_from 34 out) → Writing (fields p tape) (closing p.cipher_suites) old (back_from 34 out part) (35 + s)
-  session-stands w n =
-      let place : 34 + (1 + s) ≡ 35 + s = omega arith in
-      rw place at (writes (vector 1 (rand_bytes s tape 32)) (closing p.cipher_suites) w (filled (length-session s tape) n))
+  pub session-stands : {old out part : List ℕ} {n : ℕ} → Writing (fields p tape) (vector 1 (rand_bytes s tape 32) ++ closing p.cipher_suites) old out 34
+      → Put (vector 1 (rand_bytes s tape 32)) n (lent_from 34 out) part → Writing (fields p tape) (closing p.cipher_suites) old (back_from 34 out part) (34 + n)
+  session-stands w q = writes (vector 1 (rand_bytes s tape 32)) (closing p.cipher_suites) w q
 
 -- ---- the block, the body and the hello: what each writer asks for, and what it gives
 

@@ -1,22 +1,25 @@
 // The extension writers of tls.rs, all but the transport parameters. Each fills the front of the part of the output that it is lent
-// and gives the count of its bytes; one that draws also gives the place on the tape after its last draw.
+// and gives the count of its bytes; one that draws also gives the place on the tape after its last draw. Tape and place are two arguments
+// for the reason that crates/tape gives.
 #![tactic(auto)]
 
-ghost use Rattle.std.specs.Prelude.{◌≡◌, ◌++◌, [], ◌∷◌, ◌+◌, ◌*◌, ◌≤◌, ◌<◌, length, map, MatchOption};
+ghost use Rattle.std.specs.Prelude.{◌≡◌, ◌++◌, [], ◌∷◌, ◌+◌, ◌*◌, ◌^◌, ◌≤◌, ◌<◌, length, map, MatchOption};
 ghost use Rattle.wire.specs.Front.{front, Put};
 ghost use Rattle.wire.specs.Numbers.{digits};
 ghost use Rattle.wire.specs.Vectors.{vector, words, extension};
 ghost use Rattle.profiles.specs.Sizes.{key_share_size, key_draws};
 ghost use Rattle.profiles.specs.Code.{group_number};
-ghost use Rattle.tape.specs.Tape.{rand_bytes, next_u64, payload_length};
+ghost use Rattle.tape.specs.Tape.{next_u64, payload_length};
 ghost use Rattle.tape.specs.Part.{Room, Puts};
-ghost use Rattle.tls_extensions.specs.Extensions.{ext_server_name, ext_alpn, ext_u16_list, ext_supported_versions, key_of, key_share, key_shares, ext_key_share, ext_encrypted_client_hello, ext_compress_cert, fixed_extension};
+ghost use Rattle.tls_extensions.specs.Extensions.{ext_server_name, ext_alpn, key_of, key_share, key_shares, ext_key_share, ext_encrypted_client_hello, ext_compress_cert, fixed_extension};
 
 use profiles::named_groups::{PQ_HYBRID_GROUP, SECP256R1};
 use profiles::{ExtType, Group, ext};
 use tape::Wrote;
+use wire::Word;
 
-// Type and length of the body.
+// Type and length of the body. That a length fits two bytes is asked by each writer of one: it is a sum of lengths that its caller has, and
+// a type for it, or a `u16`, would be made of the sum at each call.
 pub fn put_head(out: &mut [u8], t: ExtType, n: usize)
     requires { (4 ≤ length out.old) × (n < 65536) }
     ensures { out.new ≡ front (digits 256 2 t.0 ++ digits 256 2 n) out.old }
@@ -25,7 +28,26 @@ pub fn put_head(out: &mut [u8], t: ExtType, n: usize)
     wire::w16(&mut out[2..], n as u16);
 }
 
-// Type and length of the body, which is a list of n bytes with its length before it.
+// A vector: bytes, with their count in N bytes before them.
+pub fn put_vector<const N: usize>(out: &mut [u8], bytes: &[u8]) -> usize
+    requires { (N ≤ 8) × (N + length bytes.now ≤ length out.old) × (length bytes.now < 256 ^ N) }
+    ensures { Put (vector N bytes.now) result out.old out.new }
+{
+    wire::put_be::<N>(out, bytes.len() as u64);
+    N + wire::put_bytes(&mut out[N..], bytes)
+}
+
+// A vector of 16-bit numbers; the count is that of their bytes.
+pub fn put_word_vector<const N: usize, T: Word>(out: &mut [u8], values: &[T]) -> usize
+    requires { (N ≤ 8) × (N + 2 * length values.now ≤ length out.old) × (2 * length values.now < 256 ^ N) }
+    ensures { Put (vector N (words (map T.word values.now))) result out.old out.new }
+{
+    wire::put_be::<N>(out, (2 * values.len()) as u64);
+    N + wire::put_words(&mut out[N..], values)
+}
+
+// Type and length of the body, which is a list of n bytes with its length before it. `put_vector` would want the list as one slice, and its
+// callers write it in pieces.
 fn put_list_head(out: &mut [u8], t: ExtType, n: usize)
     requires { (6 ≤ length out.old) × (n < 65534) }
     ensures { out.new ≡ front ((digits 256 2 t.0 ++ digits 256 2 (2 + n)) ++ digits 256 2 n) out.old }
@@ -38,8 +60,8 @@ fn put_extension(out: &mut [u8], t: ExtType, body: &[u8]) -> usize
     requires { (4 + length body.now ≤ length out.old) × (length body.now < 65536) }
     ensures { Put (extension t.0 body.now) result out.old out.new }
 {
-    put_head(out, t, body.len());
-    4 + wire::put_bytes(&mut out[4..], body)
+    wire::w16(out, t.0);
+    2 + put_vector::<2>(&mut out[2..], body)
 }
 
 // Name type 0, and the name with its length.
@@ -48,8 +70,7 @@ fn put_host_name(out: &mut [u8], name: &[u8]) -> usize
     ensures { Put (0 ∷ vector 2 name.now) result out.old out.new }
 {
     wire::w8(out, 0x00);
-    wire::w16(&mut out[1..], name.len() as u16);
-    3 + wire::put_bytes(&mut out[3..], name)
+    1 + put_vector::<2>(&mut out[1..], name)
 }
 
 pub fn ext_server_name(out: &mut [u8], name: &[u8]) -> usize
@@ -66,47 +87,16 @@ pub fn ext_alpn(out: &mut [u8], name: &[u8]) -> usize
     ensures { Put (ext_alpn (name.now ∷ [])) result out.old out.new }
 {
     put_list_head(out, ext::ALPN, 1 + name.len());
-    wire::w8(&mut out[6..], name.len() as u8);
-    7 + wire::put_bytes(&mut out[7..], name)
+    6 + put_vector::<1>(&mut out[6..], name)
 }
 
-pub fn ext_u16_list(out: &mut [u8], t: ExtType, values: &[u16]) -> usize
-    requires { (6 + 2 * length values.now ≤ length out.old) × (2 * length values.now < 65530) }
-    ensures { Put (ext_u16_list t.0 values.now) result out.old out.new }
+// A list of 16-bit numbers, whose length stands in N bytes before it.
+pub fn ext_u16_list<const N: usize, T: Word>(out: &mut [u8], t: ExtType, values: &[T]) -> usize
+    requires { (N ≤ 8) × (4 + N + 2 * length values.now ≤ length out.old) × (N + 2 * length values.now < 65536) × (2 * length values.now < 256 ^ N) }
+    ensures { Put (extension t.0 (vector N (words (map T.word values.now)))) result out.old out.new }
 {
-    put_list_head(out, t, 2 * values.len());
-    6 + wire::put_words(&mut out[6..], values)
-}
-
-// The groups, two bytes each. The same as `put_words`, but for the type: groups and numbers are kept apart up to here.
-fn put_groups(out: &mut [u8], groups: &[Group]) -> usize
-    requires { 2 * length groups.now ≤ length out.old }
-    ensures { Put (words (map group_number groups.now)) result out.old out.new }
-{
-    let mut at = 0;
-    for group in groups {
-        wire::w16(&mut out[at..], group.0);
-        at += 2;
-    }
-    at
-}
-
-pub fn ext_supported_groups(out: &mut [u8], groups: &[Group]) -> usize
-    requires { (6 + 2 * length groups.now ≤ length out.old) × (2 * length groups.now < 65530) }
-    ensures { Put (ext_u16_list 10 (map group_number groups.now)) result out.old out.new }
-{
-    put_list_head(out, ext::SUPPORTED_GROUPS, 2 * groups.len());
-    6 + put_groups(&mut out[6..], groups)
-}
-
-pub fn ext_supported_versions(out: &mut [u8], versions: &[u16]) -> usize
-    requires { (5 + 2 * length versions.now ≤ length out.old) × (2 * length versions.now < 256) }
-    ensures { Put (ext_supported_versions versions.now) result out.old out.new }
-{
-    let n = 2 * versions.len();
-    put_head(out, ext::SUPPORTED_VERSIONS, 1 + n);
-    wire::w8(&mut out[4..], n as u8);
-    5 + wire::put_words(&mut out[5..], versions)
+    put_head(out, t, N + 2 * values.len());
+    4 + put_word_vector::<N, T>(&mut out[4..], values)
 }
 
 fn key_share_size(group: Group) -> usize
@@ -132,7 +122,7 @@ fn put_key(out: &mut [u8], group: Group, tape: &[u8], at: usize) -> usize
     tape::rand_bytes(out, tape, at, size)
 }
 
-// Group, length of the key, key.
+// Group, length of the key, key. No `put_vector`: the key is no slice of the tape, for the 04 of secp256r1's is not on it.
 fn put_key_share(out: &mut [u8], group: Group, tape: &[u8], at: usize) -> Wrote
     requires { (4 + key_share_size group.0 ≤ length out.old) × (at + key_draws group.0 ≤ length tape.now) }
     ensures { Puts (key_share group.0 tape.now at) result out.old out.new }
@@ -183,15 +173,6 @@ fn put_ech_head(out: &mut [u8], n: usize, config: u8)
     wire::put_bytes(&mut out[4..], &fixed);
 }
 
-// Length, and so many drawn bytes.
-fn put_random_vector(out: &mut [u8], tape: &[u8], at: usize, n: usize)
-    requires { (2 + n ≤ length out.old) × (at + n ≤ length tape.now) × (n < 65536) }
-    ensures { out.new ≡ front (vector 2 (rand_bytes n tape.now at)) out.old }
-{
-    wire::w16(out, n as u16);
-    tape::rand_bytes(&mut out[2..], tape, at, n);
-}
-
 pub fn ext_encrypted_client_hello(out: &mut [u8], tape: &[u8], at: usize) -> Wrote
     requires { (46 + payload_length (next_u64 tape.now (at + 40)) ≤ length out.old) × (at + 48 + payload_length (next_u64 tape.now (at + 40)) ≤ length tape.now) }
     ensures { Puts (ext_encrypted_client_hello tape.now at) result out.old out.new }
@@ -199,8 +180,8 @@ pub fn ext_encrypted_client_hello(out: &mut [u8], tape: &[u8], at: usize) -> Wro
     let config = (tape::next_u64(tape, at) % 256) as u8;
     let n = tape::payload_length(tape::next_u64(tape, at + 40));
     put_ech_head(out, 42 + n, config);
-    put_random_vector(&mut out[10..], tape, at + 8, 32);
-    put_random_vector(&mut out[44..], tape, at + 48, n);
+    put_vector::<2>(&mut out[10..], &tape[at + 8..at + 40]);
+    put_vector::<2>(&mut out[44..], &tape[at + 48..at + 48 + n]);
     Wrote {
         length: 46 + n,
         next: at + 48 + n,

@@ -6,11 +6,12 @@ use native.Mathlib.Nat.{not-suc-le-zero, le_of_suc-le-suc, zero-lt-suc}
 use native.Mathlib.Numerals.{add-one}
 use native.Mathlib.Omega.{arith}
 use lib.ListN.{length, take, drop, set, get_or, length-set, drop_of_length-le}
-use lib.Seq.{drop-cons, take-length}
+use lib.Seq.{drop-cons}
 use Rattle.std.specs.List.{All}
 use Rattle.wire.specs.Front.{front, Put}
 use Rattle.wire.specs.Numbers.{digits}
 use Rattle.wire.specs.Vectors.{extension}
+use Rattle.wire.proofs.FrontLaws.{piece-length}
 use Rattle.wire.proofs.Writing.{Writing, lent_from, back_from, rest-is, next-room, writes, finished, headed}
 use Rattle.profiles.specs.Profile.{Parameter}
 use Rattle.profiles.specs.Sizes.{parameter_draws}
@@ -19,7 +20,7 @@ use Rattle.profiles.specs.declared.TpEntry.{TpEntry}
 use Rattle.profiles.specs.declared.TpEntry.TheVariants as entry
 use Rattle.tape.specs.Tape.{shuffle, after_shuffle}
 use Rattle.tape.specs.Part.{Room}
-use Rattle.tape.proofs.ShuffleLaws.{length-shuffle, shuffle-default, shuffle-keeps, shuffle-map}
+use Rattle.tape.proofs.ShuffleLaws.{shuffle-default, shuffle-keeps, shuffle-map}
 use Rattle.tls_extensions.proofs.LengthLaws.{length-extension}
 use Rattle.tls_extensions.proofs.HeadLaws.{length-head, extension-is}
 use Rattle.tls_parameters.specs.Parameters.{Resolved, none, resolve, resolved, after_parameters, sent_parameters, parameters, ext_quic_tp}
@@ -87,21 +88,21 @@ take-set (x ∷ l) zero v h = refl
 take-set {A} (x ∷ l) (suc i) v h = ap (λ (m : List A). x ∷ m) (take-set l i v (le_of_suc-le-suc h))
 
 pub record Drawn (ps : List TpEntry) (at : ℕ) (placed : List Placed) (next i : ℕ) : Type 0 where
-  pub long : length placed ≡ 16
+  pub long : length placed ≡ length ps
   pub is : take i placed ≡ placed_at (take i ps) at
   pub after : next ≡ after_parameters (listed (take i ps)) at
 
-pub drawn-none : (ps : List TpEntry) (at : ℕ) (placed : List Placed) → length placed ≡ 16 → Drawn ps at placed at 0
+pub drawn-none : (ps : List TpEntry) (at : ℕ) (placed : List Placed) → length placed ≡ length ps → Drawn ps at placed at 0
 unfolding placed_at after_parameters
 drawn-none ps at placed long = record { long = long; is = refl; after = refl }
 
 module _ {ps : List TpEntry} {at : ℕ} {placed : List Placed} {next i : ℕ} (n : Drawn ps at placed next i) (d : TpEntry) (h : i < length ps) where
-  pub drawn-more : i < 16 → {k : ℕ} → k ≡ parameter_draws (parameter_of (get_or ps i d))
+  pub drawn-more : {k : ℕ} → k ≡ parameter_draws (parameter_of (get_or ps i d))
       → Drawn ps at (set placed i (placed_with (get_or ps i d) next)) (next + k) (i + 1)
-  drawn-more room e =
+  drawn-more e =
       record {
         long = length-set placed i (placed_with (get_or ps i d) next) ∙ n.long;
-        is = rw (add-one i, take-set placed i (placed_with (get_or ps i d) next) (omega (arith, room, n.long)), n.is, n.after, placed-next ps i at d h);
+        is = rw (add-one i, take-set placed i (placed_with (get_or ps i d) next) (omega (arith, h, n.long)), n.is, n.after, placed-next ps i at d h);
         after = rw (add-one i, after-next ps i at d h, e, n.after);
       }
 
@@ -109,19 +110,12 @@ module _ {ps : List TpEntry} {at : ℕ} {placed : List Placed} {next i : ℕ} (n
   pub next-within : {k : ℕ} → k ≡ parameter_draws (parameter_of (get_or ps i d)) → next + k ≤ after_parameters (listed ps) at
   next-within e = omega (arith, e, n.after, after-next ps i at d h, after-within ps (suc i) at)
 
-pub drawn-all : {ps : List TpEntry} {at : ℕ} {placed : List Placed} {next i : ℕ} → i ≡ length ps → Drawn ps at placed next i
-    → (next ≡ after_parameters (listed ps) at) × (take (length ps) placed ≡ placed_at ps at)
-drawn-all {ps} e n = (n.after ∙ rw (e, take-length ps), rw (take-length ps) at (rw e at n.is))
-
 -- ---- shuffled
 
 module _ (ps : List TpEntry) (scid tape : List ℕ) (at : ℕ) {shuffled : List Placed}
     (e : (d : Placed) → shuffled ≡ shuffle d (placed_at ps at) tape (after_parameters (listed ps) at)) where
   abbrev some : Placed
   some = placed_with entry.Grease 0
-
-  pub length-shuffled : length shuffled ≡ length ps
-  length-shuffled = ap length (e some) ∙ length-shuffle some (placed_at ps at) tape (after_parameters (listed ps) at) ∙ length-placed ps at
 
   -- what is written is what the definition sends
   pub shuffled-sent : sent_of shuffled scid tape ≡ sent_parameters (listed ps) scid tape at
@@ -134,13 +128,14 @@ module _ (ps : List TpEntry) (scid tape : List ℕ) (at : ℕ) {shuffled : List 
       ∙ shuffle-default (f some) none (map f (placed_at ps at)) tape t
       ∙ ap (λ (l : List Resolved). shuffle none l tape t) (placed-resolved ps scid tape at)
 
-  pub shuffled-room : {room : ℕ} → AllVarints (listed ps) → after_parameters (listed ps) at ≤ length tape → length scid < 65536
-      → length (parameters (sent_parameters (listed ps) scid tape at)) ≤ room → ParametersRoom shuffled scid tape room
-  shuffled-room ok there short fits =
+  pub shuffled-room : {room : ℕ} → AllVarints (listed ps) → after_parameters (listed ps) at ≤ length tape
+      → length (parameters (sent_parameters (listed ps) scid tape at)) ≤ room → length (parameters (sent_parameters (listed ps) scid tape at)) < 65536
+      → ParametersRoom shuffled scid tape room
+  shuffled-room ok there fits small =
       record {
         each = rw (e some) (shuffle-keeps (Placeable tape) some (placed_at ps at) tape (after_parameters (listed ps) at) (placed-placeable ps tape at ok there));
         fits = rw shuffled-sent fits;
-        short = short;
+        small = rw shuffled-sent small;
       }
 
 -- ---- `put_parameters`: those from place i on are the one at i, and the others
@@ -158,6 +153,12 @@ module _ (placed : List Placed) (scid tape : List ℕ) (i : ℕ) (d : Placed) wh
   module _ {whole old out : List ℕ} {n : ℕ} (w : Writing whole (parameters (sent_of (drop i placed) scid tape)) old out n) (h : i < length placed) where
     pub placed-room : length placed_bytes ≤ length (lent_from n out)
     placed-room = next-room placed_bytes (parameters (sent_of (drop (i + 1) placed) scid tape)) (rest-is w (following h)) refl
+
+    pub placed-small : length whole < 65536 → length placed_bytes < 65536
+    placed-small s =
+        let rest = parameters (sent_of (drop (i + 1) placed) scid tape) in
+        let v = rest-is w (following h) in
+        omega (arith, s, piece-length whole placed_bytes rest n v.within v.left)
 
     pub placed-written : {part : List ℕ} {m : ℕ} → Put placed_bytes m (lent_from n out) part
         → Writing whole (parameters (sent_of (drop (i + 1) placed) scid tape)) old (back_from n out part) (n + m)

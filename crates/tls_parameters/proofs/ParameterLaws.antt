@@ -1,16 +1,14 @@
 -- One parameter: its bytes while they are written, and the values that are parts of a table or of the tape. Assumes nothing.
-use Prim.Native.Nat.{ℕ, zero, suc, min, ◌+◌, ◌-◌, ◌*◌, ◌%◌, ◌≤◌, ◌<◌}
-use mathlib.Core.Path.{◌≡◌, refl, sym}
+use Prim.Native.Nat.{ℕ, ◌+◌, ◌-◌, ◌*◌, ◌%◌, ◌≤◌, ◌<◌}
+use mathlib.Core.Path.{◌≡◌, sym}
 use mathlib.Core.List.{List, [], ◌∷◌, ◌++◌, append-nil}
 use native.Mathlib.Omega.{arith}
 use borrow.Author.Tests.{lt-ltb}
 use lib.ListN.{length, take, drop}
-use lib.Dec.{lit<}
 use Rattle.wire.specs.Numbers.{digits}
 use Rattle.wire.specs.Front.{Put}
 use Rattle.wire.proofs.Writing.{Writing, lent_from, back_from, first-written, rest-is, writes, finished}
 use Rattle.varint.specs.Varint.{width, first_above, class, form, shortest}
-use Rattle.profiles.specs.Code.{tp_bytes}
 use Rattle.tape.specs.Tape.{rand_bytes}
 use Rattle.tape.proofs.DrawLaws.{rand_bytes-part}
 use Rattle.tls_parameters.specs.Parameters.{parameter}
@@ -43,25 +41,9 @@ one_byte n h =
 
 -- ---- values
 
--- the table of bytes has two
-two_bytes : (n : ℕ) → 2 ≤ n → take 2 tp_bytes ≡ take n tp_bytes
-two_bytes zero h = absurd (omega arith)
-two_bytes (suc zero) h = absurd (omega arith)
-two_bytes (suc (suc zero)) h = refl
-two_bytes (suc (suc (suc n))) h = refl
-
-pub raw-min : (n : ℕ) → take (min n 2) tp_bytes ≡ take n tp_bytes
-raw-min zero = refl
-raw-min (suc zero) = refl
-raw-min (suc (suc n)) =
-    let e : min (suc (suc n)) 2 ≡ 2 = omega arith in
-    rw e (two_bytes (suc (suc n)) (omega arith))
-
-pub raw-short : (n : ℕ) → length (take n tp_bytes) < 65536
-raw-short zero = lit< tt
-raw-short (suc zero) = lit< tt
-raw-short (suc (suc zero)) = lit< tt
-raw-short (suc (suc (suc n))) = lit< tt
+-- a value is shorter than its parameter
+pub value-small : (id : ℕ) (value : List ℕ) → length (parameter id value) < 65536 → length value < 65536
+value-small id value h = omega (arith, h, length-parameter id value)
 
 -- the 6 bytes after a draw, as the code takes them
 pub six-bytes : (tape : List ℕ) (at : ℕ) → at + 14 ≤ length tape → take (at + 14 - (at + 8)) (drop (at + 8) tape) ≡ rand_bytes 6 tape (at + 8)

@@ -37,8 +37,8 @@ sent_of placed scid tape = map (resolve_placed scid tape) placed
 pub record ParameterRoom (p : Parameter) (scid tape : List ℕ) (at room : ℕ) : Type 0 where
   pub varints : HasVarints p
   pub fits : length (resolved_bytes p scid tape at) ≤ room
+  pub small : length (resolved_bytes p scid tape at) < 65536
   pub there : at + parameter_draws p ≤ length tape
-  pub short : length scid < 65536
 
 -- parameters whose ids and numbers have varints, and whose draws are on the tape
 abbrev pub Placeable : List ℕ → Placed → Type 0
@@ -47,4 +47,4 @@ Placeable tape q = HasVarints (parameter_of q.parameter) × (q.at + parameter_dr
 pub record ParametersRoom (placed : List Placed) (scid tape : List ℕ) (room : ℕ) : Type 0 where
   pub each : All (Placeable tape) placed
   pub fits : length (parameters (sent_of placed scid tape)) ≤ room
-  pub short : length scid < 65536
+  pub small : length (parameters (sent_of placed scid tape)) < 65536

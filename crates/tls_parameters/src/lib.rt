@@ -1,12 +1,12 @@
 // `ext_quic_tp` of tls.rs. The parameters draw in profile order, so each is noted first with the place of its draws; then they are
-// shuffled; then each is written, with the draws at its own place.
+// shuffled; then each is written, with the draws at its own place. Tape and place are two arguments for the reason that crates/tape gives.
 #![tactic(auto)]
 
-ghost use Rattle.std.specs.Prelude.{◌≡◌, ◌+◌, ◌^◌, ◌≤◌, ◌<◌, length, take, map};
+ghost use Rattle.std.specs.Prelude.{◌≡◌, ◌+◌, ◌^◌, ◌≤◌, ◌<◌, length, map};
 ghost use Rattle.wire.specs.Front.{Put};
 ghost use Rattle.varint.specs.Varint.{shortest};
 ghost use Rattle.profiles.specs.Sizes.{parameter_draws};
-ghost use Rattle.profiles.specs.Code.{tp_bytes, parameter_of};
+ghost use Rattle.profiles.specs.Code.{parameter_of};
 ghost use Rattle.tape.specs.Tape.{rand_bytes, next_u64, grease_id, version_information};
 ghost use Rattle.tape.specs.Part.{Room, Puts};
 ghost use Rattle.tls_parameters.specs.Parameters.{parameter, parameters, after_parameters, ext_quic_tp};
@@ -16,7 +16,8 @@ use profiles::{TpEntry, ext};
 use tape::Wrote;
 use varint::{put_varint, varint_length};
 
-// Id, length of the value, value.
+// Id, length of the value, value. That an id has a varint is asked where one is written: ids are fields of `TpEntry`, which are open, and
+// a type for them would ask more of whoever makes a profile.
 fn put_value(out: &mut [u8], id: u64, value: &[u8]) -> usize
     requires { (id < 2 ^ 62) × (length value.now < 65536) × (length (parameter id value.now) ≤ length out.old) }
     ensures { Put (parameter id value.now) result out.old out.new }
@@ -35,15 +36,6 @@ fn put_number(out: &mut [u8], id: u64, value: u64) -> usize
     wire::w8(&mut out[a..], varint_length(value) as u8);
     let b = a + 1;
     b + put_varint(&mut out[b..], value)
-}
-
-// The same for the first n bytes of the table of bytes.
-fn put_raw(out: &mut [u8], id: u64, n: usize) -> usize
-    requires { (id < 2 ^ 62) × (length (parameter id (take n tp_bytes)) ≤ length out.old) }
-    ensures { Put (parameter id (take n tp_bytes)) result out.old out.new }
-{
-    let bytes = profiles::built_in::tp_bytes();
-    put_value(out, id, &bytes[..n.min(bytes.len())])
 }
 
 // QUIC version 1 (RFC 9000), the only one that is asked for.
@@ -73,7 +65,7 @@ fn put_parameter(out: &mut [u8], p: TpEntry, scid: &[u8], tape: &[u8], at: usize
 {
     match p {
         TpEntry::Varint(id, value) => put_number(out, id, value),
-        TpEntry::Bytes(id, n) => put_raw(out, id, n),
+        TpEntry::Bytes(id, bytes) => put_value(out, id, bytes),
         TpEntry::VersionInfo(id) => put_version_info(out, id, tape, at),
         TpEntry::ScidSource(id) => put_value(out, id, scid),
         TpEntry::Grease => put_grease(out, tape, at),
@@ -100,21 +92,12 @@ pub struct Placed {
     at: usize,
 }
 
-// The parameters in profile order, and the place on the tape after all their draws.
-#[derive(Drop)]
-struct Draws {
-    placed: [Placed; 16],
-    next: usize,
-}
-
-fn place_draws(entries: &[TpEntry], at: usize) -> Draws
-    requires { (length entries.now ≤ 16) × (after_parameters (map parameter_of entries.now) at < 2 ^ 64) }
-    ensures { (result.next ≡ after_parameters (map parameter_of entries.now) at) × (take (length entries.now) result.placed ≡ placed_at entries.now at) }
+// Notes the parameters in profile order, each with the place of its draws, and gives the place on the tape after all of them. Over
+// `placed.iter_mut().zip(entries)` the proof stops at `next`: of that loop it is not known how many parameters came before.
+fn place_draws(placed: &mut [Placed], entries: &[TpEntry], at: usize) -> usize
+    requires { (length placed.old ≡ length entries.now) × (after_parameters (map parameter_of entries.now) at < 2 ^ 64) }
+    ensures { (result ≡ after_parameters (map parameter_of entries.now) at) × (placed.new ≡ placed_at entries.now at) }
 {
-    let mut placed = [Placed {
-        parameter: TpEntry::Grease,
-        at: 0,
-    }; 16];
     let mut next = at;
     for (i, &parameter) in entries.iter().enumerate() {
         placed[i] = Placed {
@@ -123,7 +106,7 @@ fn place_draws(entries: &[TpEntry], at: usize) -> Draws
         };
         next += parameter_draws(parameter);
     }
-    Draws { placed, next }
+    next
 }
 
 // The parameters in the order given.
@@ -146,13 +129,16 @@ pub fn ext_quic_tp(
     tape: &[u8],
     at: usize,
 ) -> Wrote
-    requires { (length entries.now ≤ 16) × AllVarints (map parameter_of entries.now) × (length scid.now < 65536) × Room (ext_quic_tp (map parameter_of entries.now) scid.now tape.now at) (length out.old) (length tape.now) }
+    requires { (length entries.now ≤ 16) × AllVarints (map parameter_of entries.now) × Room (ext_quic_tp (map parameter_of entries.now) scid.now tape.now at) (length out.old) (length tape.now) }
     ensures { Puts (ext_quic_tp (map parameter_of entries.now) scid.now tape.now at) result out.old out.new }
 {
-    let draws = place_draws(entries, at);
-    let mut placed = draws.placed;
+    let mut placed = [Placed {
+        parameter: TpEntry::Grease,
+        at: 0,
+    }; 16];
     let order = &mut placed[..entries.len()];
-    let next = tape::shuffle(order, tape, draws.next);
+    let drawn = place_draws(order, entries, at);
+    let next = tape::shuffle(order, tape, drawn);
     let n = put_parameters(&mut out[4..], order, scid, tape);
     tls_extensions::put_head(out, ext::QUIC_TRANSPORT_PARAMS, n);
     Wrote {

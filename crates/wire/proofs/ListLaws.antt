@@ -1,12 +1,12 @@
 -- Laws of lists and numbers that more than one crate cites. Assumes nothing.
 use Prim.Native.Nat.{ℕ, zero, suc, ◌-◌, ◌≤◌, ◌<◌}
-use mathlib.Core.Path.{◌≡◌, refl, ap, ◌∙◌}
+use mathlib.Core.Path.{◌≡◌, refl, ap}
 use mathlib.Core.Logic.{◌⊎◌, inl, inr, ⊎_elim}
 use mathlib.Core.List.{List, [], ◌∷◌, map}
-use native.Mathlib.Nat.{not-suc-le-zero, le_of_suc-le-suc, le_refl, lt_of_lt_of_le}
+use native.Mathlib.Nat.{not-suc-le-zero, le_of_suc-le-suc, le_refl}
 use native.Mathlib.Omega.{arith}
-use lib.ListN.{length, take, drop, set, get_or, length-drop, length-map, get_or-map}
-use lib.Seq.{take_all, length-take-le, get_or-take}
+use lib.ListN.{length, take, drop, set, get_or, length-drop}
+use lib.Seq.{take_all, length-take-le}
 
 pub lt-or-le : (a b : ℕ) → (a < b) ⊎ (b ≤ a)
 lt-or-le a zero = inr (omega arith)
@@ -51,12 +51,3 @@ pub map-take : {A B : Type 0} (f : A → B) (n : ℕ) (l : List A) → map f (ta
 map-take f zero l = refl
 map-take f (suc n) [] = refl
 map-take {B = B} f (suc n) (x ∷ l) = ap (λ (r : List B). f x ∷ r) (map-take f n l)
-
-module _ {A B : Type 0} (f : A → B) (l : List A) (count : ℕ) where
-  pub length-firsts : count ≤ length l → length (map f (take count l)) ≡ count
-  length-firsts h = length-map (take count l) f ∙ length-take-le count l h
-
-  -- whatever stands for a missing place
-  pub firsts_at : (d e : A) (i : ℕ) → i < count → count ≤ length l → get_or (map f (take count l)) i (f d) ≡ f (get_or l i e)
-  firsts_at d e i h k =
-      get_or-map f (take count l) i d ∙ ap f (get_or-take count l i d h ∙ get_or-any-default l i d e (lt_of_lt_of_le h k))

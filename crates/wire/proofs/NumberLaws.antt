@@ -1,11 +1,12 @@
 -- Digits and the numbers that they write. Assumes nothing.
-use Prim.Native.Nat.{ℕ, zero, suc, ◌+◌, ◌*◌, ◌/◌, ◌%◌, ◌≤◌, ◌<◌}
+use Prim.Native.Nat.{ℕ, zero, suc, ◌+◌, ◌-◌, ◌*◌, ◌/◌, ◌%◌, ◌≤◌, ◌<◌}
 use mathlib.Core.Path.{◌≡◌, refl, ◌∙◌}
 use mathlib.Core.List.{List, [], ◌∷◌, ◌++◌, append_assoc, append-nil}
 use native.Mathlib.Nat.{div-add-mod', mul-add-div_right, mul-add-mod_self_right, div-eq_of_lt, mod-eq_of_lt}
 use native.Mathlib.Omega.{arith}
 use lib.ListN.{length, take, drop, get_or, length-append}
-use lib.Seq.{get_or-drop}
+use lib.Seq.{get_or-drop, drop_at}
+use Rattle.std.specs.Int.{to_be_bytes, w64}
 use Rattle.wire.specs.Numbers.{Bytes, digits, number_on, number}
 
 pub length_digits : (b n v : ℕ) → length (digits b n v) ≡ n
@@ -91,6 +92,24 @@ bytes_take (suc n) (x ∷ s) h (suc i) = bytes_take n s (λ j. h (suc j)) i
 
 pub bytes_drop : (n : ℕ) (s : List ℕ) → Bytes s → Bytes (drop n s)
 bytes_drop n s h i = rw get_or-drop (h (n + i))
+
+-- eight bytes, each with its own quotient
+bytes-eight : (n : ℕ) → to_be_bytes w64 n ≡ digits 256 8 n
+unfolding digits
+bytes-eight n =
+    let q7 : n / 72057594037927936 ≡ n / 256 / 256 / 256 / 256 / 256 / 256 / 256 = omega arith in
+    let q6 : n / 281474976710656 ≡ n / 256 / 256 / 256 / 256 / 256 / 256 = omega arith in
+    let q5 : n / 1099511627776 ≡ n / 256 / 256 / 256 / 256 / 256 = omega arith in
+    let q4 : n / 4294967296 ≡ n / 256 / 256 / 256 / 256 = omega arith in
+    let q3 : n / 16777216 ≡ n / 256 / 256 / 256 = omega arith in
+    let q2 : n / 65536 ≡ n / 256 / 256 = omega arith in
+    rw (q7, q6, q5, q4, q3, q2)
+
+-- the last of them are the low ones
+pub low-bytes : (n v : ℕ) → n ≤ 8 → drop (8 - n) (to_be_bytes w64 v) ≡ digits 256 n v
+low-bytes n v h =
+    rw (bytes-eight v, digits-split 256 (8 - n) n v 8 (omega arith))
+    (drop_at (digits 256 (8 - n) (above 256 n v)) (digits 256 n v) (8 - n) (length_digits 256 (8 - n) (above 256 n v)))
 
 -- two bytes, as `be16` reads them
 pub number-two : (s : List ℕ) → 2 ≤ length s → number 256 (take 2 s) ≡ get_or s 0 0 * 256 + get_or s 1 0

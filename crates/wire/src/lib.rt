@@ -4,7 +4,7 @@
 
 pub mod refusals;
 
-ghost use Rattle.std.specs.Prelude.{◌≡◌, [], ◌∷◌, ◌*◌, ◌≤◌, ◌<◌, length, take};
+ghost use Rattle.std.specs.Prelude.{ℕ, ◌≡◌, [], ◌∷◌, ◌*◌, ◌≤◌, ◌<◌, length, map, take};
 ghost use Rattle.wire.specs.Numbers.{digits, number};
 ghost use Rattle.wire.specs.Front.{front, Put};
 ghost use Rattle.wire.specs.Vectors.{words};
@@ -19,12 +19,20 @@ pub fn be16(b: &[u8]) -> u16
     u16::from_be_bytes([b[0], b[1]])
 }
 
+// Writes the N low bytes of v, highest first.
+pub fn put_be<const N: usize>(out: &mut [u8], v: u64)
+    requires { (N ≤ 8) × (N ≤ length out.old) }
+    ensures { out.new ≡ front (digits 256 N v) out.old }
+{
+    out[..N].copy_from_slice(&v.to_be_bytes()[8 - N..]);
+}
+
 // Writes a byte.
 pub fn w8(out: &mut [u8], v: u8)
     requires { 1 ≤ length out.old }
     ensures { out.new ≡ front (v ∷ []) out.old }
 {
-    out[0] = v;
+    put_be::<1>(out, u64::from(v));
 }
 
 // Writes the two bytes of v.
@@ -32,7 +40,7 @@ pub fn w16(out: &mut [u8], v: u16)
     requires { 2 ≤ length out.old }
     ensures { out.new ≡ front (digits 256 2 v) out.old }
 {
-    out[..2].copy_from_slice(&v.to_be_bytes());
+    put_be::<2>(out, u64::from(v));
 }
 
 // Writes the three low bytes of v.
@@ -40,7 +48,7 @@ pub fn w24(out: &mut [u8], v: u32)
     requires { 3 ≤ length out.old }
     ensures { out.new ≡ front (digits 256 3 v) out.old }
 {
-    out[..3].copy_from_slice(&v.to_be_bytes()[1..]);
+    put_be::<3>(out, u64::from(v));
 }
 
 // Copies src to the front of out and gives its length.
@@ -53,17 +61,31 @@ pub fn put_bytes(out: &mut [u8], src: &[u8]) -> usize
     n
 }
 
-// Writes 16-bit numbers one after the other and gives the count of bytes.
-pub fn put_words(out: &mut [u8], values: &[u16]) -> usize
-    requires { 2 * length values.now ≤ length out.old }
-    ensures { Put (words values.now) result out.old out.new }
-{
-    let mut at = 0;
-    for &v in values {
-        w16(&mut out[at..], v);
-        at += 2;
+// A 16-bit number, or a type that stands for one.
+pub trait Word: Copy {
+    ghost word: { Self → ℕ };
+
+    fn word(self) -> u16
+        ensures { result ≡ word self };
+}
+
+impl Word for u16 {
+    ghost word = { λ v. v };
+
+    fn word(self) -> u16 {
+        self
     }
-    at
+}
+
+// Writes 16-bit numbers one after the other and gives the count of bytes.
+pub fn put_words<T: Word>(out: &mut [u8], values: &[T]) -> usize
+    requires { 2 * length values.now ≤ length out.old }
+    ensures { Put (words (map T.word values.now)) result out.old out.new }
+{
+    for (i, &v) in values.iter().enumerate() {
+        w16(&mut out[2 * i..], v.word());
+    }
+    2 * values.len()
 }
 
 // Where a reader or joiner stopped: the refusal, and the place at which its question was answered "no".

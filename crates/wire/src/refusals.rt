@@ -37,7 +37,7 @@ pub enum Refusal {
 }
 
 impl Refusal {
-    // The number of the question.
+    // The number of the question. A method and no `From`: `u64::from(refusal)` would not say which number is meant.
     pub fn number(self) -> u64
         ensures is { result ≡ question self }
         ensures known { IsNumber result }

@@ -10,7 +10,7 @@ use Rattle.wire.specs.Refusals.{question, answer_of}
 use Rattle.fingerprint.specs.Reader.{read}
 use Rattle.fingerprint.specs.InRange.{Sane}
 use Rattle.fingerprint.specs.declared.Fingerprint.{Fingerprint}
-use Rattle.fingerprint.proofs.ShownLaws.{Parsed, parsed-sane, reported, refusal_is}
+use Rattle.fingerprint.proofs.ShownLaws.{Parsed, parsed-sane, reported, refusal_is, protocols-lie}
 use Rattle.alike.specs.Alike.{alike, same_numbers, same_list, same_name}
 use Rattle.alike.specs.Code.{name_of, names_of, same_lists_of, same_counts_of}
 use Rattle.alike.proofs.AnswerLaws.{fails, passes, five}
@@ -82,7 +82,7 @@ module _ (c : Joined-same_lists) where
   four : c.if-same_lists.value ≡ ((session && name) && lists) && protocols
   four =
       elim c.if-same_lists.branch [
-        | then-same_lists w ↦ w.value-is ∙ passes _ _ three w.if-same_lists.true w.same_protocols.ensures
+        | then-same_lists w ↦ w.value-is ∙ passes _ _ three w.if-same_lists.true (rw (w.protocols.ensures.0, w.protocols-then-same_lists.ensures.0) at w.same_protocols.ensures)
         | else-same_lists w ↦ w.value-is ∙ w.if-same_lists.false ∙ fails _ _ three w.if-same_lists.false
       ]
 
@@ -109,22 +109,12 @@ same_name-requires c =
     let here = (goal.at.same_name-requires c).In-Ok-parse_clienthello in
     ((sane-a here).sni-inside, (sane-b here).sni-inside)
 
-pub same_lists-requires : goal.same_lists-requires
-same_lists-requires c =
-    let here = (goal.at.same_lists-requires c).In-Ok-parse_clienthello in
-    ((sane-a here).counts, (sane-b here).counts)
-
 pub same_protocols-requires : goal.same_protocols-requires
 same_protocols-requires c =
     let here = (goal.at.same_protocols-requires c).In-Ok-parse_clienthello in
     let x = sane-a here in
     let y = sane-b here in
-    (x.counts.protocols, x.protocols-inside, y.counts.protocols, y.protocols-inside)
-
-pub same_but_for_order-requires : goal.same_but_for_order-requires
-same_but_for_order-requires c =
-    let here = (goal.at.same_but_for_order-requires c).In-Ok-parse_clienthello in
-    ((sane-a here).counts, (sane-b here).counts)
+    (protocols-lie x c.protocols.ensures.0, protocols-lie y c.protocols-then-same_lists.ensures.0)
 
 pub returns-then-same_protocols : goal.returns-then-same_protocols
 returns-then-same_protocols c =

@@ -23,7 +23,7 @@ pub returns-in-Ok : goal.returns-in-Ok
 returns-in-Ok c =
     let args = c.args in
     let cut = c.write_frames in
-    let put = c.put_number_and_bytes-n in
+    let put = c.put_all-n in
     let kept = c.put_text in
     let n = c.in-Ok.length in
     let e : result n ≡ cut_of args.c args.hello.now (length_of args.buffer.now) = rw c.in-Ok.is at cut.ensures.is in

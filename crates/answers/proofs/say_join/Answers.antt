@@ -27,7 +27,7 @@ pub returns-in-Ok : goal.returns-in-Ok
 returns-in-Ok c =
     let args = c.args in
     let joined = c.reassemble_crypto in
-    let put = c.put_number_and_two-n in
+    let put = c.put_buffers-n in
     let kept = c.put_text in
     let n = c.in-Ok.end in
     let e : result n ≡ join_of args.frames.now args.buffer.now args.marks.now = rw c.in-Ok.is at joined.ensures.is in
@@ -38,7 +38,7 @@ pub returns-in-Err : goal.returns-in-Err
 returns-in-Err c =
     let args = c.args in
     let joined = c.reassemble_crypto in
-    let put = c.put_number_and_two-n-in-Err in
+    let put = c.put_buffers-n-in-Err in
     let k = question c.in-Err.refusal in
     let e : refused k ≡ join_of args.frames.now args.buffer.now args.marks.now = rw c.in-Err.is at joined.ensures.is in
     rw (← e, ← joined.ensures.output, ← joined.ensures.marked) (hands-refused (refused_word ∷ decimal_text k ∷ (space ∷ []) ∷ shown_text joined.new.out ∷ (space ∷ []) ∷ shown_text joined.new.marks ∷ []) put.result args.out.now put.new.out (rw c.number.ensures.is at put.ensures) args.last.now c.in-Err.refusal)

@@ -23,7 +23,7 @@ pub returns-in-Ok : goal.returns-in-Ok
 returns-in-Ok c =
     let args = c.args in
     let made = c.generate_client_hello in
-    let put = c.put_two_numbers_and_bytes-n in
+    let put = c.put_all-n in
     let kept = c.put_text in
     let h = c.in-Ok.hello in
     let bytes = made_bytes args.profile args.name.now args.scid.now args.tape.now in

@@ -14,7 +14,7 @@ pub returns-in-Ok : goal.returns-in-Ok
 returns-in-Ok c =
     let read = c.read in
     let args = c.args in
-    let put = c.put_two_numbers in
+    let put = c.put_all in
     let v = c.in-Ok.x in
     let e : result v ≡ read_of args.input.now = rw c.in-Ok.is at read.ensures.is in
     rw (← e) (says-result (value_word ∷ decimal_text v.value ∷ (space ∷ width_word) ∷ decimal_text v.width ∷ []) put.result args.out.now put.new.out put.ensures)

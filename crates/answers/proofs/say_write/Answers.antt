@@ -16,7 +16,7 @@ pub returns-in-Ok : goal.returns-in-Ok
 returns-in-Ok c =
     let args = c.args in
     let write = c.write in
-    let put = c.put_number_and_bytes in
+    let put = c.put_all in
     let e : result c.in-Ok.width ≡ write_of args.value (length args.buffer.now) = rw c.in-Ok.is at write.ensures.is in
     rw (← e, ← write.ensures.output) (says-result (width_word ∷ decimal_text c.in-Ok.width ∷ (space ∷ []) ∷ shown_text write.new.out ∷ []) put.result args.out.now put.new.out put.ensures)
 

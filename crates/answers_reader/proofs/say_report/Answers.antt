@@ -11,8 +11,7 @@ use Rattle.fingerprint.specs.declared.Fingerprint.{Fingerprint}
 use Rattle.reports.specs.Lines.{report_text}
 use Rattle.reports.specs.Code.{report_parts}
 use Rattle.reports.proofs.ShowLaws.{parts-shown}
-use Rattle.answers_reader.specs.Answers.{report_answer}
-use Rattle.answers.proofs.AnswerLaws.{says-result, says-refused}
+use Rattle.answers.proofs.AnswerLaws.{says-result}
 use Rattle.fingerprint.proofs.ShownLaws.{Parsed, parsed-sane, reported, refusal_is}
 use Rattle.answers_reader.proofs.say_report.Goals as goal
 use Rattle.answers_reader.proofs.say_report.Goals.{In-Ok}
@@ -39,9 +38,7 @@ returns-in-Ok c =
 
 pub returns-in-Err : goal.returns-in-Err
 returns-in-Err c =
-    let put = c.put_number in
     let h : List ℕ = c.args.hello.now in
     let k = question c.in-Err.refusal in
     let e : refused k ≡ parsed_of (read h) = rw c.in-Err.is at c.parse_clienthello.ensures.is in
-    rw (refusal_is h k e)
-    (says-refused (report_answer (refused k)) put.result c.args.out.now put.new.out (rw c.number.ensures.is at put.ensures) c.in-Err.refusal)
+    rw (refusal_is h k e) c.refuse.ensures

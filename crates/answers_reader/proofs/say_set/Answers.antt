@@ -5,7 +5,7 @@ use mathlib.Core.List.{List}
 use Rattle.wire.specs.Numbers.{Bytes}
 use Rattle.fingerprint.specs.Reader.{read}
 use Rattle.fingerprint.specs.Calls.{extension_set}
-use Rattle.fingerprint_lists.specs.declared.Types.{Types}
+use Rattle.fingerprint_lists.specs.Arrays.{Types}
 use Rattle.reports.specs.Lines.{set_text}
 use Rattle.reports.specs.Code.{set_parts}
 use Rattle.reports.proofs.ShowLaws.{set-shown, set-filled}

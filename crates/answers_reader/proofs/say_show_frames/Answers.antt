@@ -10,7 +10,7 @@ returns c =
     let args = c.args in
     let stop = c.joiner_stopped_at-stop in
     let put = c.put_frame_listing in
-    let first = c.joiner_room-buffer.result in
-    let second = c.joiner_room-marks.result in
+    let first = c.room-buffer.result in
+    let second = c.room-marks.result in
     shows-frames args.frames.now (stop_of stop.result) put.result args.out.now put.new.out
     (stop.ensures.is ∙ roomy-stops args.frames.now first second (search rules) (search rules)) put.ensures

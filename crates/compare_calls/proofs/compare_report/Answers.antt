@@ -3,11 +3,5 @@ use Rattle.fingerprint.specs.Reader.{read}
 use Rattle.compare_calls.proofs.ReadingLaws.{report-coded}
 use Rattle.compare_calls.proofs.compare_report.Goals as goal
 
-pub returns-in-Answer : goal.returns-in-Answer
-returns-in-Answer c = rw c.in-Answer.is at (report-coded (read c.args.hello.now) c.say_report.ensures)
-
-pub returns-in-Handed : goal.returns-in-Handed
-returns-in-Handed c = rw c.in-Handed.is at (report-coded (read c.args.hello.now) c.say_report.ensures)
-
 pub returns-in-Refused : goal.returns-in-Refused
 returns-in-Refused c = rw c.coded.ensures (rw c.in-Refused.is at (report-coded (read c.args.hello.now) c.say_report.ensures))

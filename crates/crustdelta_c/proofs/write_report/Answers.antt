@@ -1,11 +1,9 @@
 -- The head and the walk find the report, or the refusal, and the report is written. Assumes nothing.
 use mathlib.Core.Path.{refl}
 use Rattle.std.proofs.lemmas.Result.{err_from_is_err_and}
-use Rattle.wire.specs.Numbers.{Bytes}
 use Rattle.fingerprint.specs.Code.{HeadFound, Surveyed}
 use Rattle.fingerprint.specs.Reader.{read}
-use Rattle.fingerprint.proofs.ReportLaws.{read-refused, read_result, hello_of, found_of, readable, length_types}
-use Rattle.fingerprint_layout.proofs.FoundLaws.{length_ids}
+use Rattle.fingerprint.proofs.ReportLaws.{read-refused, read_result, hello_of, found_of, readable}
 use Rattle.crustdelta_c.proofs.ReportLaws.{report-refused, report-no-room, report-written}
 use native.Mathlib.Omega.{arith}
 use borrow.Author.Rules.{rules}
@@ -43,8 +41,7 @@ pub put_report-requires : goal.put_report-requires
 put_report-requires c =
     let f = head (goal.at.put_report-requires c).In_ok-head in
     let s = surveyed (goal.at.put_report-requires c).In_ok-found in
-    let bytes : Bytes c.args.hello.now = λ i. (c.type_inv.hello i).fits in
-    (search rules, readable f s, length_types f s, length_ids bytes (read_result f s) (found_of f s))
+    (search rules, readable f s)
 
 pub returns : goal.returns
 returns c =

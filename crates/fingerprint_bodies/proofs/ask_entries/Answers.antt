@@ -1,77 +1,61 @@
 -- `ask_entries` counts the entries: k so far and those still to come are all of them. Assumes nothing.
-use mathlib.Core.Path.{◌≡◌, refl, sym, ap, ◌∙◌, subst}
-use Prim.Native.Nat.{ℕ, ◌-◌, zero-le}
-use mathlib.Core.List.{List}
-use lib.ListN.{length, take, drop, length-drop}
-use borrow.Author.Tests.{le-leb, lt-leb}
-use Rattle.std.specs.Prelude as std
-use Rattle.std.specs.Prelude.{Some, None, Result, Ok, Err, ok_or}
-use Rattle.std.proofs.Math.Option.{Option, none}
-use Rattle.std.proofs.lemmas.Result.{err_from_is_err_and}
-use Rattle.wire.specs.Refusals.{question}
-use Rattle.wire.specs.declared.refusals.Refusal.{Refusal}
+use mathlib.Core.Path.{◌≡◌, sym, ◌∙◌}
+use mathlib.Core.Option.{none, some}
+use lib.ListN.{drop}
+use mathlib.Core.Bool.{true}
 use Rattle.wire.proofs.ListLaws.{part_to_end}
-use Rattle.fingerprint_bodies.specs.Entries.{Entry, all_entries}
-use Rattle.fingerprint_bodies.specs.Code.{UsedFound, UsedAs}
-use Rattle.fingerprint_bodies.proofs.EntryLaws.{count-start, count_next, count_cut, count-end}
-use Rattle.fingerprint_bodies.proofs.FormLaws.{counted, within-counted}
-use native.Mathlib.Omega.{arith}
+use borrow.Author.Tests.{le-leb, lt-leb}
+use Rattle.fingerprint_bodies.specs.Entries.{bind, whole, at_least, all_entries}
+use Rattle.fingerprint_bodies.specs.Code.{is_whole, within}
+use Rattle.fingerprint_bodies.proofs.EntryLaws.{counting-start, counting-next, counting_cut, counting-end}
+use Rattle.fingerprint_bodies.proofs.FormLaws.{whole-reaches, counted, list-other, list-counted}
 use Rattle.fingerprint_bodies.proofs.ask_entries.Goals as goal
+use Rattle.fingerprint_bodies.proofs.ask_entries.Goals.{Else-not-is_whole, Else-not-is_empty}
+use Rattle.fingerprint_bodies.proofs.ask_entries.Given.{Over}
 
-module _ (form : List ℕ → Option (Entry (Unit {0}))) (list : List ℕ) (at : ℕ) (r : std.Option ℕ) (h : UsedAs r form (take (length list - at) (drop at list))) where
-  inner : UsedAs r form (drop at list)
-  inner = subst (λ (l : List ℕ). UsedAs r form l) (part_to_end list at) h
+-- the list's bytes are those after the length, where this reaches exactly the end
+reaches : (g : Over) (c : Else-not-is_whole g) → is_whole 2 c.args.body.now ≡ true
+reaches g c = sym c.is_whole.ensures ∙ c.if-not-is_whole.false
 
-  found : (n : ℕ) (q : Result ℕ Refusal) (e : Refusal) → q ≡ ok_or r e → q ≡ Ok n → UsedFound form (drop at list) n
-  found n q e from is = let there : r ≡ Some n = grind (arith, from, is) in rw there at inner
+pub returns-then-not-is_whole : goal.returns-then-not-is_whole
+returns-then-not-is_whole g c = sym (list-other g.E.Listed.form c.args.least c.args.most c.args.body.now (sym c.is_whole.ensures ∙ c.if-not-is_whole.true))
 
-  missed : (k : Refusal) (q : Result ℕ Refusal) (e : Refusal) → q ≡ ok_or r e → q ≡ Err k → form (drop at list) ≡ none
-  missed k q e from is = let not-there : r ≡ None = grind (arith, from, is) in rw not-there at inner
+pub slice_bounds-of-count : goal.slice_bounds-of-count
+slice_bounds-of-count g c = whole-reaches 2 c.args.body.now (reaches g (goal.at.slice_bounds-of-count g c).Else-not-is_whole)
 
-pub loop-at-init : goal.loop-at-init
-loop-at-init g c = (zero-le, zero-le, count-start g.E.Listed.form c.args.list.now)
+pub slice_bounds-of-start : goal.slice_bounds-of-start
+slice_bounds-of-start g c = whole-reaches 2 c.args.body.now (reaches g (goal.at.slice_bounds-of-start g c).Else-not-is_whole)
 
-pub returns-in_err-at : goal.returns-in_err-at
-returns-in_err-at g c =
+pub loop-k-init : goal.loop-k-init
+loop-k-init g c = rw (c.of-entries.ensures, part_to_end c.args.body.now 2) (counting-start g.E.Listed.form (drop 2 c.args.body.now))
+
+pub loop-k-preserved : goal.loop-k-preserved
+loop-k-preserved g c = counting-next g.E.Listed.form (drop 2 c.args.body.now) c.loop-k.invariant _ _ c.in-Some.ensures.steps
+
+pub returns-then-not-is_empty : goal.returns-then-not-is_empty
+returns-then-not-is_empty g c =
     let form = g.E.Listed.form in
-    let list = c.args.list.now in
-    let l = c.loop-at in
-    let cut = missed form list l.at c.used.result c.used.ensures c.in_err-at.field-0.0 c.ok_or.result _ c.ok_or.ensures.value c.in_err-at.was in
-    let p = err_from_is_err_and c.from_residual.result c.from_residual.ensures.1 in
-    let n : question p.0 ≡ 21 = grind (arith, p.2, c.ok_or.ensures.value, c.in_err-at.was) in
-    rw p.1 n
-    ∙ sym (ap (counted c.args.least c.args.most) (l.invariant.2 ∙ count_cut form list l.k l.at l.invariant.0 c.loop-at-test.true cut))
-    ∙ sym (within-counted c.args.least c.args.most (all_entries form list))
+    let body = c.args.body.now in
+    let cut = counting_cut form (drop 2 body) c.loop-k.invariant c.in_default.ensures.steps (sym c.is_empty.ensures ∙ c.if-not-is_empty.true) in
+    sym (list-counted form c.args.least c.args.most body none (sym c.is_whole.ensures ∙ c.if-not-is_whole.false) cut)
 
-pub loop-at-preserved : goal.loop-at-preserved
-loop-at-preserved g c =
+-- where all were whole, so many are asked
+asked : (g : Over) (c : Else-not-is_empty g) →
+    within c.args.most (bind (whole 2 c.args.body.now) (λ l. bind (all_entries g.E.Listed.form l) (at_least c.args.least)))
+    ≡ counted c.args.least c.args.most (some c.loop-k.k)
+asked g c =
     let form = g.E.Listed.form in
-    let list = c.args.list.now in
-    let l = c.loop-at in
-    let n = c.in_ok-at.field-0 in
-    let f = found form list l.at c.used.result c.used.ensures n c.ok_or.result _ c.ok_or.ensures.value c.in_ok-at.was in (
-      omega (arith, f.some, l.invariant.0),
-      omega (arith, f.within, length-drop l.at list, c.loop-at-test.true),
-      l.invariant.2 ∙ count_next form list l.k l.at n _ l.invariant.0 c.loop-at-test.true f.is,
-    )
+    let body = c.args.body.now in
+    let all = counting-end form (drop 2 body) c.loop-k.invariant c.in_default.ensures.steps (sym c.is_empty.ensures ∙ c.if-not-is_empty.false) in
+    list-counted form c.args.least c.args.most body (some c.loop-k.k) (sym c.is_whole.ensures ∙ c.if-not-is_whole.false) all
 
 pub returns-then-k-least : goal.returns-then-k-least
-returns-then-k-least g c =
-    let form = g.E.Listed.form in
-    let list = c.args.list.now in
-    let l = c.loop-at in
-    rw (within-counted c.args.least c.args.most (all_entries form list), l.invariant.2 ∙ count-end form list l.k l.at c.loop-at-test.false, lt-leb c.args.least l.k c.if-k-least.true) refl
+returns-then-k-least g c = sym (asked g (goal.at.returns-then-k-least g c).Else-not-is_empty ∙ rw (lt-leb c.args.least c.loop-k.k c.if-k-least.true))
 
 pub returns-then-most-k : goal.returns-then-most-k
 returns-then-most-k g c =
-    let form = g.E.Listed.form in
-    let list = c.args.list.now in
-    let l = c.loop-at in
-    rw (within-counted c.args.least c.args.most (all_entries form list), l.invariant.2 ∙ count-end form list l.k l.at c.loop-at-test.false, le-leb c.args.least l.k c.if-k-least.false, lt-leb l.k c.args.most c.if-most-k.true) refl
+    sym (asked g (goal.at.returns-then-most-k g c).Else-not-is_empty ∙ rw (le-leb c.args.least c.loop-k.k c.if-k-least.false, lt-leb c.loop-k.k c.args.most c.if-most-k.true))
 
 pub returns : goal.returns
 returns g c =
-    let form = g.E.Listed.form in
-    let list = c.args.list.now in
-    let l = c.loop-at in
-    rw (within-counted c.args.least c.args.most (all_entries form list), l.invariant.2 ∙ count-end form list l.k l.at c.loop-at-test.false, le-leb c.args.least l.k c.if-k-least.false, le-leb l.k c.args.most c.if-most-k.false) refl
+    sym (asked g (goal.at.returns g c).Else-not-is_empty ∙ rw (le-leb c.args.least c.loop-k.k c.if-k-least.false, le-leb c.loop-k.k c.args.most c.if-most-k.false))

@@ -7,13 +7,13 @@ use Rattle.fingerprint_layout.proofs.put_report.Goals as goal
 pub name_in-requires : goal.name_in-requires
 name_in-requires c =
     let pre = c.requires in
-    omega (arith, pre.1.inside value.name, pre.1.short)
+    rw c.body.ensures (omega (arith, pre.1.inside value.name, pre.1.short))
 
 pub returns : goal.returns
 returns c =
     let middle = c in
     let args = middle.args in
     let pre = middle.requires in
-    let put-first-lists = middle.put_first_lists-first in
-    let put-last-lists = c.put_last_lists-last in
-    report-put args.out.now (omega (arith, pre.0)) put-first-lists.ensures put-last-lists.ensures c.name_in.ensures c.put_counts.ensures
+    let put-first-lists = middle.put_first_lists in
+    let put-last-lists = c.put_last_lists in
+    report-put args.out.now (omega (arith, pre.0)) put-first-lists.ensures put-last-lists.ensures (rw c.body.ensures at c.name_in.ensures) c.put_counts.ensures

@@ -1,23 +1,33 @@
--- The loop keeps: each id before place i is greater than the one before it. Assumes nothing.
-use Prim.Native.Nat.{ℕ, ◌+◌, ◌-◌}
-use mathlib.Core.Path.{◌≡◌, ap}
+-- The loop keeps `Risen`: each id before the pairs that are left is greater than the one before it. Assumes nothing.
+use mathlib.Core.Path.{refl, ap, ◌∙◌}
 use native.Mathlib.Omega.{arith}
-use lib.ListN.{get_or}
 use Rattle.std.proofs.lemmas.List.Sorted.{IsNonDecreasingBy-from_sort}
+use Rattle.std.specs.Slice.Iter.{windows_rest, windows_size}
 use Rattle.fingerprint_order.proofs.SortedLaws.{risen-new, stands-twice}
+use Rattle.fingerprint_order.proofs.WindowLaws.{Risen, risen-start, pair, risen-next, risen-end}
 use Rattle.fingerprint_order.proofs.all_new.Goals as goal
+use Rattle.fingerprint_order.proofs.all_new.Goals.{At-loop-pair}
 
-pub returns-then-ids-i : goal.returns-then-ids-i
-returns-then-ids-i c =
+-- the pairs are those of the sorted ids
+kept : (c : At-loop-pair) → Risen c.sort_unstable.new.self c.loop-pair.pair-iterator
+kept c = rw (ap windows_rest c.into_iter-pair-iterator.ensures.into_iter_gives ∙ c.windows-pair-items.ensures.rest) at c.loop-pair.invariant
+
+pub loop-pair-init : goal.loop-pair-init
+loop-pair-init c =
+    let it = c.into_iter-pair-iterator in
+    risen-start (windows_rest it.result) it.result refl (ap windows_size it.ensures.into_iter_gives ∙ c.windows-pair-items.ensures.size)
+
+pub returns-then-pair : goal.returns-then-pair
+returns-then-pair c =
     let sort = c.sort_unstable in
-    let s = sort.new.self in
-    let i = c.loop-i.i in
-    let here : i - 1 + 1 ≡ i = omega (arith, c.loop-i.auto.i) in
-    let same : get_or s (i - 1 + 1) 0 ≡ get_or s i 0 = ap (λ (k : ℕ). get_or s k 0) here in
-    stands-twice c.args.ids.now s sort.ensures.permutation (IsNonDecreasingBy-from_sort (λ x. x) _ sort.ensures.sorted)
-    (i - 1) (omega (arith, here, c.loop-i-test.true)) (omega (arith, same, c.if-ids-i.true))
+    let p = pair (kept (goal.at.returns-then-pair c).At-loop-pair) c.next.new.self c.next.result c.in-Some.pair c.in-Some.is c.next.ensures.steps in
+    let falls = rw (p.one, p.two) at c.if-pair.true in
+    stands-twice c.args.ids.now sort.new.self sort.ensures.permutation (IsNonDecreasingBy-from_sort (λ x. x) _ sort.ensures.sorted) p.place (omega (arith, p.inside)) falls
+
+pub loop-pair-preserved : goal.loop-pair-preserved
+loop-pair-preserved c = risen-next c.loop-pair.invariant c.next.new.self c.next.result c.in-Some.pair c.in-Some.is c.next.ensures.steps c.if-pair.false
 
 pub returns : goal.returns
 returns c =
     let sort = c.sort_unstable in
-    risen-new c.args.ids.now sort.new.self sort.ensures.permutation (λ j h. c.loop-i.invariant j (omega (arith, h, c.loop-i-test.false)))
+    risen-new c.args.ids.now sort.new.self sort.ensures.permutation (λ j h. risen-end (kept (goal.at.returns c).At-loop-pair) c.next.new.self c.next.result c.in-None.is c.next.ensures.steps j h)

@@ -1,7 +1,7 @@
--- The loop keeps: each id before place i is greater than the one before it. Assumes nothing.
-use Prim.Native.Nat.{ℕ, ◌+◌, ◌<◌}
-use lib.ListN.{get_or}
+-- The loop keeps: each id before the next pair is greater than the one before it. Assumes nothing.
+use Rattle.std.specs.Slice.Iter.{windows_rest}
+use Rattle.fingerprint_order.proofs.WindowLaws.{Risen}
 use Rattle.fingerprint_order.proofs.all_new.Given as goal
 
-abbrev pub invariant-loop-i : goal.invariant-loop-i
-invariant-loop-i l = (j : ℕ) → j + 1 < l.i → get_or l.ids j 0 < get_or l.ids (j + 1) 0
+abbrev pub invariant-loop-pair : goal.invariant-loop-pair
+invariant-loop-pair l = Risen (windows_rest l.initial.pair-iterator) l.pair-iterator

@@ -7,4 +7,4 @@ use Rattle.fingerprint_parameters.specs.Code.{Marked}
 use Rattle.fingerprint_parameters.proofs.all_new.Given as goal
 
 abbrev pub invariant-loop-i : goal.invariant-loop-i
-invariant-loop-i l = (length l.marks ≡ 64) × Marked l.marks (take l.i l.ids) × (distinct (take l.i l.ids) ≡ true)
+invariant-loop-i l = (length l.marks.rests ≡ 64) × Marked l.marks.rests (take l.i l.ids) × (distinct (take l.i l.ids) ≡ true)

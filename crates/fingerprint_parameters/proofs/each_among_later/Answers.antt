@@ -1,70 +1,32 @@
--- The loop keeps: the ids are distinct exactly where those from the place on are. Assumes nothing.
+-- The loop keeps `Later`: the ids are distinct exactly where those still to come are. Assumes nothing.
 use mathlib.Core.Path.{◌≡◌, sym, ◌∙◌}
-use Prim.Native.Nat.{◌+◌}
-use lib.ListN.{drop}
 use Rattle.wire.specs.Sums.{member}
-use Rattle.wire.proofs.ListLaws.{part_to_end}
-use Rattle.fingerprint_parameters.specs.Code.{ids_in}
-use Rattle.fingerprint_order.proofs.MemberLaws.{distinct_nil, distinct-not, distinct-later}
-use Rattle.fingerprint_parameters.proofs.ParameterLaws as laws
-use Rattle.fingerprint_parameters.proofs.ParameterLaws.{Next, cut-there, ids-end}
+use lib.Dec.{eqb}
+use Rattle.std.proofs.lemmas.Iterator.Search.{any_from_yields_List}
+use Rattle.fingerprint_bodies.proofs.YieldLaws.{yields}
+use Rattle.fingerprint_parameters.proofs.MemberLaws.{contains-member}
+use Rattle.fingerprint_parameters.proofs.LaterLaws.{ids_form, later-start, after-id, later-twice, later-next, later-end}
+use borrow.Author.Rules.{rules}
+use borrow.Author.Tests.{tests}
 use Rattle.fingerprint_parameters.proofs.each_among_later.Goals as goal
-use Rattle.fingerprint_parameters.proofs.each_among_later.Goals.{After-has_id, In-Some}
+use Rattle.fingerprint_parameters.proofs.each_among_later.Goals.{After-any}
 
-next : (c : In-Some) →
-    let args = c.args in
-    let loop = c.loop-at in
-    Next args.body.now loop.at c.in-Some.parameter.id c.in-Some.parameter.used
-next c =
-    let args = c.args in
-    let start = c in
-    let loop = c.loop-at in
-    let test = c.loop-at-test in
-    let call = c.one_parameter in
-    laws.next args.body.now loop.at test.true _ call.ensures (λ k. (start.type_inv.body k).fits) c.in-Some.is
+pub loop-id-init : goal.loop-id-init
+loop-id-init c = rw c.of-parameters.ensures (later-start c.args.body.now c.requires)
 
-looked : (c : After-has_id) →
-    let args = c.args in
-    let loop = c.loop-at in
-    c.has_id.result ≡ member c.in-Some.parameter.id (ids_in (drop (loop.at + c.in-Some.parameter.used) args.body.now))
+-- it is looked for among those after it
+looked : (c : After-any) → c.any.result ≡ member c.in-Some.id (after-id c.loop-id.invariant c.in-Some.ensures.steps).later
 looked c =
-    let args = c.args in
-    let loop = c.loop-at in
-    rw (part_to_end args.body.now (loop.at + c.in-Some.parameter.used)) at c.has_id.ensures
+    let id = c.in-Some.id in
+    let next = after-id c.loop-id.invariant c.in-Some.ensures.steps in
+    any_from_yields_List (λ later. eqb later id) c.any.new.self _ c.any.result c.any.ensures.ran (yields ids_form (λ s. s.rest.now) {s = c.of.result} c.of.ensures next.holds) (λ x b q k. search (rules, tests))
+    ∙ contains-member id next.later
 
-pub returns-in_default : goal.returns-in_default
-returns-in_default c =
-    let args = c.args in
-    let loop = c.loop-at in
-    let test = c.loop-at-test in
-    let call = c.one_parameter in
-    absurd (cut-there args.body.now loop.at test.true _ call.ensures c.in_default.is loop.invariant.1)
+pub returns-then-any : goal.returns-then-any
+returns-then-any c = sym (later-twice c.loop-id.invariant c.in-Some.ensures.steps (sym (looked (goal.at.returns-then-any c).After-any) ∙ c.if-any.true))
 
-pub has_id-requires : goal.has_id-requires
-has_id-requires c =
-    let args = c.args in
-    let loop = c.loop-at in
-    rw (part_to_end args.body.now (loop.at + c.in-Some.parameter.used)) ((next (goal.at.has_id-requires c).In-Some).there loop.invariant.1)
-
-pub returns-then-has_id : goal.returns-then-has_id
-returns-then-has_id c =
-    let loop = c.loop-at in
-    let at_entry_lem = (goal.at.returns-then-has_id c).In-Some in
-    let at-look = (goal.at.returns-then-has_id c).After-has_id in
-    sym (loop.invariant.2 ∙ rw ((next at_entry_lem).ids loop.invariant.1) (distinct-not _ _ (sym (looked at-look) ∙ c.if-has_id.true)))
-
-pub loop-at-preserved : goal.loop-at-preserved
-loop-at-preserved c =
-    let loop = c.loop-at in
-    let at_entry_lem = (goal.at.loop-at-preserved c).In-Some in
-    let at-look = (goal.at.loop-at-preserved c).After-has_id in (
-      (next at_entry_lem).within,
-      (next at_entry_lem).there loop.invariant.1,
-      loop.invariant.2 ∙ rw ((next at_entry_lem).ids loop.invariant.1) (distinct-later _ _ (sym (looked at-look) ∙ c.if-has_id.false)),
-    )
+pub loop-id-preserved : goal.loop-id-preserved
+loop-id-preserved c = later-next c.loop-id.invariant c.in-Some.ensures.steps (sym (looked (goal.at.loop-id-preserved c).After-any) ∙ c.if-any.false)
 
 pub returns : goal.returns
-returns c =
-    let args = c.args in
-    let loop = c.loop-at in
-    sym (loop.invariant.2 ∙ rw (ids-end args.body.now loop.at c.loop-at-test.false) distinct_nil)
+returns c = sym (later-end c.loop-id.invariant c.in_default.ensures.steps)

@@ -1,41 +1,36 @@
 -- `put_lines` meets its contract: the lines so far stand in the output, and the others begin where they end. Assumes nothing.
-use Prim.Native.Nat.{zero-le}
-use mathlib.Core.Path.{refl, ap, ◌∙◌}
-use native.Mathlib.Omega.{arith}
-use Rattle.wire.proofs.ListLaws.{part_to_end, length-part-to-end}
+use Prim.Native.Nat.{ℕ, zero-le}
+use mathlib.Core.Path.{◌≡◌, refl, sym, ap, ◌∙◌, subst}
 use Rattle.wire.specs.Stops.{stop_of}
-use Rattle.show_frames.specs.Frames.{line_size}
-use Rattle.show_frames.proofs.TurnLaws.{going-none, going_more, ended-whole, ended-short}
-use borrow.Author.Rules.{rules}
+use Rattle.show_frames.proofs.TurnLaws.{Going, going-none, going_more, ended-whole, ended-short}
+use Rattle.std.proofs.Common.{rules}
+use Rattle.show_frames.specs.declared.Lines.{Lines}
 use Rattle.show_frames.proofs.put_lines.Goals as goal
-use Rattle.show_frames.proofs.put_lines.Goals.{else-loop-at-test, then-loop-at-test+then-out-used-lt-ROOM}
+use Rattle.show_frames.proofs.put_lines.Goals.{else-loop-out-test, then-loop-out-test+in_default}
 
-pub loop-at-init : goal.loop-at-init
-loop-at-init c =
+pub loop-out-init : goal.loop-out-init
+loop-out-init c =
     let args = c.args in
-    (zero-le, zero-le, refl, going-none args.frames.now (stop_of args.stop) args.out.now)
+    (refl, zero-le, zero-le, refl, going-none args.frames.now (stop_of args.stop) args.out.now)
 
-pub line_size-size-requires : goal.line_size-size-requires
-line_size-size-requires c = omega (arith, length-part-to-end c.args.frames.now c.loop-at.at)
-
-pub put_row-used-requires : goal.put_row-used-requires
-put_row-used-requires c =
-    omega (arith, c.line_size-size.ensures.2, length-part-to-end c.args.frames.now c.loop-at.at)
-
-pub loop-at-preserved : goal.loop-at-preserved
-loop-at-preserved c =
+pub loop-out-preserved : goal.loop-out-preserved
+loop-out-preserved c =
     let args = c.args in
     let h = args.frames.now in
-    let l = c.loop-at in
-    let size = c.line_size-size in
+    let stop = stop_of args.stop in
+    let l = c.loop-out in
     let w = c.put_row-used in
-    let part = part_to_end h l.at in
-    let long = length-part-to-end h l.at in (
-      omega (arith, size.ensures.2, long),
+    let at = c.in-Some.at in
+    let g = c.in-Some.ensures.steps in
+    let same = l.invariant.0 in
+    let going = subst (λ (x : ℕ). Going h stop x l.used args.out.now l.out) (sym g.0) l.invariant.4 in (
+      g.6 ∙ same,
+      rw g.5 (rw same at g.4),
       search rules,
       search rules,
-      going_more h (stop_of args.stop) l.at size.result l.used w.result _ args.out.now l.out w.new.out
-          c.loop-at-test.true (size.ensures.0 ∙ ap line_size part) size.ensures.1 l.invariant.3 refl w.ensures,
+      rw g.5
+          (going_more h stop at c.in-Some.size l.used w.result _ args.out.now l.out w.new.out (rw same at g.1) (rw same at g.2) g.3 going
+          refl w.ensures),
     )
 
 pub returns : goal.returns
@@ -43,12 +38,18 @@ returns c =
     let args = c.args in
     let h = args.frames.now in
     let stop = stop_of args.stop in
-    let l = c.loop-at in
+    let l = c.loop-out in
     let w = c.put_end in
-    elim c.loop-at-test.branch [
-      | else-loop-at-test p ↦
-          ended-whole h stop l.at l.used w.result _ args.out.now l.out w.new.out l.invariant.3 refl w.ensures p.loop-at-test.false
-      | then-loop-at-test+then-out-used-lt-ROOM q ↦
-          ended-short h stop l.at l.used w.result _ args.out.now l.out w.new.out l.invariant.3 refl w.ensures l.invariant.2 l.invariant.1
-          q.if-out-used-lt-ROOM.true
+    let there = c.loop-out-test.lines.at in
+    let going = λ (e : there ≡ l.lines.at). subst (λ (x : ℕ). Going h stop x l.used args.out.now l.out) (sym e) l.invariant.4 in
+    elim c.loop-out-test.branch [
+      | else-loop-out-test p ↦
+          let same : there ≡ l.lines.at = ap (λ (x : Lines). x.at) p.lines-is in
+          ended-short h stop there l.used w.result _ args.out.now l.out w.new.out (going same) refl w.ensures l.invariant.3 l.invariant.2
+          p.loop-out-test.false
+      | then-loop-out-test+in_default q ↦
+          let ended = rw q.in_default.is at q.next.ensures.steps in
+          let same : there ≡ l.lines.at = ap (λ (x : Lines). x.at) q.lines-is ∙ ended.1 in
+          ended-whole h stop there l.used w.result _ args.out.now l.out w.new.out (going same) refl w.ensures
+          (rw same (rw l.invariant.0 at ended.0))
     ]

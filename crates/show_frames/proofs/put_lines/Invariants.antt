@@ -6,9 +6,10 @@ use Rattle.wire.specs.Stops.{stop_of}
 use Rattle.show_frames.proofs.TurnLaws.{Going}
 use Rattle.show_frames.proofs.put_lines.Given as goal
 
-abbrev pub invariant-loop-at : goal.invariant-loop-at
-invariant-loop-at l =
-    (l.at ≤ length l.frames) × (l.used ≤ length l.out) × (length l.out ≡ length l.initial.out) × Going l.frames (stop_of l.stop) l.at l.used l.initial.out l.out
+abbrev pub invariant-loop-out : goal.invariant-loop-out
+invariant-loop-out l =
+    (l.lines.frames.now ≡ l.frames) × (l.lines.at ≤ length l.frames) × (l.used ≤ length l.out) × (length l.out ≡ length l.initial.out)
+    × Going l.frames (stop_of l.stop) l.lines.at l.used l.initial.out l.out
 
-abbrev pub decreases-loop-at : goal.decreases-loop-at
-decreases-loop-at l = length l.frames - l.at
+abbrev pub decreases-loop-out : goal.decreases-loop-out
+decreases-loop-out l = length l.frames - l.lines.at

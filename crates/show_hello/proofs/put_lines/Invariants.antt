@@ -1,8 +1,7 @@
 -- `show_hello::put_lines` meets its contract: the lines so far stand in the output, and the others begin at the cursor. Assumes nothing.
-use Prim.Native.Nat.{◌-◌, ◌≤◌}
+use Prim.Native.Nat.{◌≤◌}
 use mathlib.Core.Path.{◌≡◌}
 use lib.ListN.{length}
-use Rattle.show_lines.specs.Lines.{Ready}
 use Rattle.show_lines.specs.Rows.{cursor_of}
 use Rattle.wire.specs.Stops.{stop_of}
 use Rattle.show_hello.proofs.TurnLaws.{Going}
@@ -10,7 +9,6 @@ use Rattle.show_hello.proofs.put_lines.Given as goal
 
 abbrev pub invariant-loop-c : goal.invariant-loop-c
 invariant-loop-c l =
-    Ready (length l.hello) (cursor_of l.c) × (l.used ≤ length l.out) × (length l.out ≡ length l.initial.out) × Going l.hello (stop_of l.stop) (cursor_of l.c) l.used l.initial.out l.out
-
-abbrev pub decreases-loop-c : goal.decreases-loop-c
-decreases-loop-c l = length l.hello - l.c.at
+    (goal.iterator-loop-c).can_next l.c-iterator × (goal.iterator-loop-c).is_finite l.c-iterator × (l.c-iterator.hello.now ≡ l.hello)
+    × (l.used ≤ length l.out) × (length l.out ≡ length l.initial.out)
+    × Going l.hello (stop_of l.stop) (cursor_of l.c-iterator.cursor) l.used l.initial.out l.out

@@ -2,8 +2,8 @@
 use Rattle.show_words.proofs.WroteLaws.{wrote-text, wrote_none}
 use Rattle.show_words.proofs.put_after.Goals as goal
 
-pub returns-then-bytes-front : goal.returns-then-bytes-front
-returns-then-bytes-front c = wrote_none c.args.out.now
+pub returns-in-Some : goal.returns-in-Some
+returns-in-Some c = wrote-text c.put_name.ensures
 
-pub returns : goal.returns
-returns c = wrote-text c.put_name.ensures
+pub returns-in-None : goal.returns-in-None
+returns-in-None c = wrote_none c.args.out.now

@@ -1,7 +1,8 @@
 -- The bytes are the next eight of the tape. Assumes nothing.
-use Prim.Native.Nat.{◌+◌, ◌-◌}
 use mathlib.Core.Path.{◌≡◌, sym, ap, ◌∙◌}
 use native.Mathlib.Omega.{arith}
+use lib.ListN.{length, take, drop}
+use Rattle.std.proofs.Common.{rules}
 use Rattle.tape.proofs.DrawLaws.{eight-bytes, rand_bytes-part}
 use Rattle.tape.specs.Tape.{lowest_first, next_u64}
 use Rattle.tape.proofs.next_u64.Goals as goal
@@ -10,10 +11,10 @@ pub returns : goal.returns
 unfolding next_u64
 returns c =
     let args = c.args in
-    let copied = c.copy_from_slice.ensures in
-    let eight : args.at + 8 - args.at ≡ 8 = omega arith in (
+    let bytes : c.unwrap.result.now ≡ take 8 (drop args.at args.tape.now) = search rules in
+    let long : length c.unwrap.result.now ≡ 8 = search rules in (
       c.from_le_bytes.ensures
-          ∙ eight-bytes c.copy_from_slice.new.self copied.len
-          ∙ ap lowest_first ((rw eight at copied.after) ∙ sym (rand_bytes-part 8 args.tape.now args.at c.requires)),
+          ∙ eight-bytes c.unwrap.result.now long
+          ∙ ap lowest_first (bytes ∙ sym (rand_bytes-part 8 args.tape.now args.at c.requires)),
       omega arith,
     )

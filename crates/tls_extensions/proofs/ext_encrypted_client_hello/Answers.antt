@@ -1,12 +1,13 @@
 -- The head, the key and the payload, each to the part after the last. Assumes nothing.
-use Prim.Native.Nat.{ℕ, ◌+◌, ◌%◌}
-use mathlib.Core.Path.{◌≡◌, refl, sym}
+use Prim.Native.Nat.{ℕ, ◌+◌, ◌-◌, ◌%◌}
+use mathlib.Core.Path.{◌≡◌, sym}
 use mathlib.Core.List.{List, [], ◌∷◌, ◌++◌, append_assoc}
 use lib.ListN.{length, length-append}
 use Rattle.wire.specs.Numbers.{digits}
 use Rattle.wire.specs.Vectors.{vector}
 use Rattle.wire.proofs.Writing.{filled, joined, put_as}
 use Rattle.tape.specs.Tape.{rand_bytes, next_u64, payload_length}
+use Rattle.tape.proofs.DrawLaws.{rand_bytes-part}
 use Rattle.tls_extensions.specs.Extensions.{ext_encrypted_client_hello}
 use Rattle.tls_extensions.proofs.LengthLaws.{length-random-vector, length-ech-body, length-encrypted-client-hello}
 use Rattle.tls_extensions.proofs.HeadLaws.{length-head, extension-is}
@@ -41,7 +42,6 @@ returns c =
     let args = c.args in
     let payload-length = c.payload_length-n in
     let put-ech-head = c.put_ech_head in
-    let put-random-vector = c.put_random_vector in
     let at = args.at in
     let tape = args.tape.now in
     let n = payload-length.result in
@@ -52,7 +52,10 @@ returns c =
     let fixed : List ℕ = 0 ∷ 0 ∷ 1 ∷ 0 ∷ 1 ∷ config ∷ [] in
     let ten : length (first ++ fixed) ≡ 10 = omega (arith, length-append first fixed, length-head 65037 (42 + n)) in
     let head = filled ten put-ech-head.ensures in
-    let key = filled (length-random-vector 32 tape (at + 8)) put-random-vector.ensures in
-    let payload = filled refl c.put_random_vector-2.ensures in
+    let whole-key : at + 40 - (at + 8) ≡ 32 = omega arith in
+    let whole-payload : at + 48 + n - (at + 48) ≡ n = omega arith in
+    let drawn-key = rw (whole-key, ← (rand_bytes-part 32 tape (at + 8) (omega (arith, c.requires.1)))) at c.put_vector.ensures in
+    let key = filled (length-random-vector 32 tape (at + 8)) drawn-key.output in
+    let payload = rw (whole-payload, ← (rand_bytes-part n tape (at + 48) (omega (arith, c.requires.1, n-is)))) at c.put_vector-2.ensures in
     let whole = put_as (ech-is tape at n config n-is (rw next-u64.ensures.0)) (joined (joined head key) payload) in
     record { put = filled (rw n-is (length-encrypted-client-hello tape at)) whole.output; next = rw n-is }

@@ -1,14 +1,14 @@
--- The head, and the body to the part after it. Assumes nothing.
-use lib.ListN.{length}
-use Rattle.wire.proofs.Writing.{filled, joined, put_as}
-use Rattle.tls_extensions.proofs.HeadLaws.{length-head, extension-is}
+-- The type, and the body to the part after it. Assumes nothing.
+use Rattle.wire.specs.Vectors.{extension}
+use Rattle.wire.proofs.NumberLaws.{length_digits}
+use Rattle.wire.proofs.VectorLaws.{length-vector}
+use Rattle.wire.proofs.Writing.{filled, joined}
+use native.Mathlib.Omega.{arith}
 use Rattle.tls_extensions.proofs.put_extension.Goals as goal
 
+pub overflow_add-result : goal.overflow_add-result
+overflow_add-result c = omega (arith, c.put_vector.ensures.count, length-vector 2 c.args.body.now)
+
 pub returns : goal.returns
-returns c =
-    let args = c.args in
-    let put-head = c.put_head in
-    let t = args.t.0 in
-    let body = args.body.now in
-    let head = filled (length-head t (length body)) put-head.ensures in
-    put_as (extension-is t body) (joined head c.put_bytes.ensures)
+unfolding extension
+returns c = joined (filled (length_digits 256 2 c.args.t.0) c.w16.ensures) c.put_vector.ensures

@@ -1,16 +1,12 @@
--- A byte and a number make the head, and the name follows it. Assumes nothing.
+-- A byte, and the name to the part after it. Assumes nothing.
 use mathlib.Core.Path.{refl}
-use lib.ListN.{length}
-use Rattle.wire.specs.Vectors.{vector}
-use Rattle.wire.proofs.NumberLaws.{length_digits}
+use Rattle.wire.proofs.VectorLaws.{length-vector}
 use Rattle.wire.proofs.Writing.{filled, joined}
+use native.Mathlib.Omega.{arith}
 use Rattle.tls_extensions.proofs.put_host_name.Goals as goal
 
+pub overflow_add-result : goal.overflow_add-result
+overflow_add-result c = omega (arith, c.put_vector.ensures.count, length-vector 2 c.args.name.now)
+
 pub returns : goal.returns
-unfolding vector
-returns c =
-    let args = c.args in
-    let w16 = c.w16 in
-    let w8 = c.w8 in
-    let count = filled (length_digits 256 2 (length args.name.now)) w16.ensures in
-    joined (joined (filled refl w8.ensures) count) c.put_bytes.ensures
+returns c = joined (filled refl c.w8.ensures) c.put_vector.ensures

@@ -1,5 +1,4 @@
 -- The loop keeps `Drawn`: the first parameters are placed. Assumes nothing.
-use mathlib.Core.Path.{refl}
 use native.Mathlib.Omega.{arith}
 use Rattle.profiles.specs.declared.TpEntry.{TpEntry}
 use Rattle.profiles.specs.declared.TpEntry.TheVariants as entry
@@ -11,10 +10,10 @@ abbrev missing : TpEntry
 missing = entry.Varint 0 0
 
 pub loop-i-init : goal.loop-i-init
-loop-i-init c = drawn-none c.args.entries.now c.args.at _ refl
+loop-i-init c = drawn-none c.args.entries.now c.args.at _ c.requires.0
 
 pub overflow_add-next : goal.overflow_add-next
 overflow_add-next c = omega (arith, next-within c.loop-i.invariant missing c.loop-i-test.true c.parameter_draws-next.ensures.0, c.requires.1)
 
 pub loop-i-preserved : goal.loop-i-preserved
-loop-i-preserved c = drawn-more c.loop-i.invariant missing c.loop-i-test.true (omega (arith, c.requires.0)) c.parameter_draws-next.ensures.0
+loop-i-preserved c = drawn-more c.loop-i.invariant missing c.loop-i-test.true c.parameter_draws-next.ensures.0

@@ -1,6 +1,7 @@
 -- Each kind of parameter has its writer. Assumes nothing.
 use Rattle.profiles.specs.Sizes.{parameter_draws}
 use Rattle.tls_parameters.specs.Parameters.{resolve}
+use Rattle.tls_parameters.proofs.ParameterLaws.{value-small}
 use Rattle.tls_parameters.proofs.put_parameter.Goals as goal
 
 pub put_number-requires : goal.put_number-requires
@@ -10,12 +11,12 @@ put_number-requires c =
     let room = rw c.in-Varint.is at pre in
     (room.varints.0, room.varints.1, room.fits)
 
-pub put_raw-requires : goal.put_raw-requires
+pub put_value-requires : goal.put_value-requires
 unfolding resolve
-put_raw-requires c =
+put_value-requires c =
     let pre = c.requires in
     let room = rw c.in-Bytes.is at pre in
-    (room.varints, room.fits)
+    (room.varints, value-small _ _ room.small, room.fits)
 
 pub put_version_info-requires : goal.put_version_info-requires
 unfolding resolve parameter_draws
@@ -24,12 +25,12 @@ put_version_info-requires c =
     let room = rw c.in-VersionInfo.is at pre in
     (room.varints, room.there, room.fits)
 
-pub put_value-requires : goal.put_value-requires
+pub put_value-requires-in-ScidSource : goal.put_value-requires-in-ScidSource
 unfolding resolve
-put_value-requires c =
+put_value-requires-in-ScidSource c =
     let pre = c.requires in
     let room = rw c.in-ScidSource.is at pre in
-    (room.varints, room.short, room.fits)
+    (room.varints, value-small _ _ room.small, room.fits)
 
 pub put_grease-requires : goal.put_grease-requires
 unfolding resolve parameter_draws
@@ -44,7 +45,7 @@ returns-in-Varint c = rw c.in-Varint.is c.put_number.ensures
 
 pub returns-in-Bytes : goal.returns-in-Bytes
 unfolding resolve
-returns-in-Bytes c = rw c.in-Bytes.is c.put_raw.ensures
+returns-in-Bytes c = rw c.in-Bytes.is c.put_value.ensures
 
 pub returns-in-VersionInfo : goal.returns-in-VersionInfo
 unfolding resolve
@@ -52,7 +53,7 @@ returns-in-VersionInfo c = rw c.in-VersionInfo.is c.put_version_info.ensures
 
 pub returns-in-ScidSource : goal.returns-in-ScidSource
 unfolding resolve
-returns-in-ScidSource c = rw c.in-ScidSource.is c.put_value.ensures
+returns-in-ScidSource c = rw c.in-ScidSource.is c.put_value-in-ScidSource.ensures
 
 pub returns-in-Grease : goal.returns-in-Grease
 unfolding resolve

@@ -5,7 +5,7 @@ use Rattle.profiles.specs.declared.TpEntry.TheVariants as entry
 use Rattle.tls_parameters.specs.Parameters.{parameters}
 use Rattle.tls_parameters.specs.Writing.{sent_of}
 use Rattle.tls_parameters.specs.declared.Placed.{Placed}
-use Rattle.tls_parameters.proofs.OrderLaws.{placed-room, placed-written, placed-finished}
+use Rattle.tls_parameters.proofs.OrderLaws.{placed-room, placed-small, placed-written, placed-finished}
 use Rattle.tls_parameters.proofs.put_parameters.Goals as goal
 
 -- what stands for a missing one
@@ -26,7 +26,7 @@ put_parameter-n-requires c =
       varints = one.0;
       fits = placed-room args.placed.now args.scid.now args.tape.now loop.p-index missing loop.invariant c.loop-p-test.true;
       there = one.1;
-      short = c.requires.short;
+      small = placed-small args.placed.now args.scid.now args.tape.now loop.p-index missing loop.invariant c.loop-p-test.true c.requires.small;
     }
 
 pub overflow_add-n : goal.overflow_add-n

@@ -5,9 +5,9 @@ use Rattle.varint.specs.Code.{place}
 use Rattle.varint.proofs.size.Goals as goal
 
 pub returns-in_default : goal.returns-in_default
-returns-in_default c = sized-large c.args.value 4 (rw c.in_default.is at c.class_of.ensures) (lit≤ tt)
+returns-in_default c = sized-large c.args.value 4 (rw c.in_default.is at c.of.ensures) (lit≤ tt)
 
 pub returns : goal.returns
 returns c =
     let class = c.in-Some.class in
-    rw c.width_of.ensures (sized c.args.value (place class) (rw c.in-Some.is at c.class_of.ensures) (place-small class))
+    rw c.width.ensures (sized c.args.value (place class) (rw c.in-Some.is at c.of.ensures) (place-small class))

@@ -1,7 +1,13 @@
--- `w8` stores its byte at the front. Assumes nothing.
-use mathlib.Core.List.{[], ◌∷◌}
-use Rattle.wire.proofs.FrontLaws.{stores}
+-- A byte is its own one digit. Assumes nothing.
+use Prim.Native.Nat.{◌%◌}
+use mathlib.Core.Path.{◌≡◌}
+use native.Mathlib.Omega.{arith}
+use Rattle.wire.specs.Numbers.{digits}
 use Rattle.wire.proofs.w8.Goals as goal
 
 pub returns : goal.returns
-returns c = stores (c.args.v ∷ []) _ c.requires
+unfolding digits
+returns c =
+    let v = c.args.v in
+    let low : v % 256 ≡ v = omega (arith, c.ranges.v.fits) in
+    rw (c.put_be.ensures, c.from.ensures, low)

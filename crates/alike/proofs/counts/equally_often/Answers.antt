@@ -1,26 +1,29 @@
--- `alike::counts::equally_often` meets its contract: the answer for all the items is that for those from the place on. Assumes nothing.
-use mathlib.Core.Path.{sym, ◌∙◌}
-use Rattle.alike.proofs.CountLaws.{often-not, often-on, often-end}
+-- `alike::counts::equally_often` meets its contract: all of the items pass its test. Assumes nothing.
+use Prim.Native.Nat.{ℕ}
+use mathlib.Core.Path.{◌≡◌, refl, ap, ◌∙◌}
+use mathlib.Core.Bool.{Bool, ◌&&◌}
+use mathlib.Core.List.{List, [], ◌∷◌}
+use borrow.Author.Rules.{rules}
+use borrow.Author.Tests.{tests}
+use lib.Dec.{eqb}
+use Rattle.std.specs.List.{list_all}
+use Rattle.std.proofs.lemmas.Iterator.Search.{all_from_yields_List}
+use Rattle.std.proofs.lemmas.Iterator.{YieldsList-from_slice}
+use Rattle.wire.specs.Sums.{count, equally_often}
 use Rattle.alike.proofs.counts.equally_often.Goals as goal
 
-pub returns-then-times : goal.returns-then-times
-returns-then-times c =
-    let args = c.args in
-    let l = c.loop-x in
-    let a-count = c.times.ensures in
-    let b-count = c.times-in-loop-x.ensures in
-    sym (l.invariant ∙ often-not args.items.now l.x-index c.loop-x-test.true args.a.now args.b.now (λ e. c.if-times.true (a-count ∙ e ∙ sym b-count)))
+-- x stands as often in a as in b
+abbrev often : List ℕ → List ℕ → ℕ → Bool
+often a b x = eqb (count x a) (count x b)
 
-pub loop-x-preserved : goal.loop-x-preserved
-loop-x-preserved c =
-    let args = c.args in
-    let l = c.loop-x in
-    let a-count = c.times.ensures in
-    let b-count = c.times-in-loop-x.ensures in
-    l.invariant ∙ often-on args.items.now l.x-index c.loop-x-test.true args.a.now args.b.now (sym a-count ∙ c.if-times.false ∙ b-count)
+all-often : (a b l : List ℕ) → list_all (often a b) l ≡ equally_often a b l
+unfolding equally_often
+all-often a b [] = refl
+all-often a b (x ∷ l) = ap (λ (t : Bool). often a b x && t) (all-often a b l)
 
 pub returns : goal.returns
 returns c =
-    let args = c.args in
-    let l = c.loop-x in
-    sym (l.invariant ∙ often-end args.items.now l.x-index c.loop-x-test.false args.a.now args.b.now)
+    let a = c.args.a.now in
+    let b = c.args.b.now in
+    all_from_yields_List (often a b) _ _ c.all.result c.all.ensures.ran (YieldsList-from_slice c.args.items.now cc) (λ x r q k. search (rules, tests))
+    ∙ all-often a b c.args.items.now

@@ -27,26 +27,26 @@ module _ (c : Joined-eq-3) where
   versions = same_numbers (take c.args.x.now.version_count c.args.x.now.supported_versions) (take c.args.y.now.version_count c.args.y.now.supported_versions)
 
   one : c.eq.result ≡ suites
-  one = c.eq.ensures ∙ list-same eqb _ _
+  one = (rw (c.suites.ensures.0, c.suites-2.ensures.0) at c.eq.ensures) ∙ list-same eqb _ _
 
   two : c.if-eq.value ≡ suites && groups
   two =
       elim c.if-eq.branch [
-        | then-eq w ↦ w.value-is ∙ passes _ _ one w.if-eq.true (w.eq-then-eq.ensures ∙ numbers-same group_number _ _)
+        | then-eq w ↦ w.value-is ∙ passes _ _ one w.if-eq.true ((rw (w.groups.ensures.0, w.groups-then-eq.ensures.0) at w.eq-then-eq.ensures) ∙ numbers-same group_number _ _)
         | else-eq w ↦ w.value-is ∙ w.if-eq.false ∙ fails _ _ one w.if-eq.false
       ]
 
   three : c.if-eq-2.value ≡ (suites && groups) && shares
   three =
       elim c.if-eq-2.branch [
-        | then-eq-2 w ↦ w.value-is ∙ passes _ _ two w.if-eq-2.true (w.eq-then-eq-2.ensures ∙ numbers-same group_number _ _)
+        | then-eq-2 w ↦ w.value-is ∙ passes _ _ two w.if-eq-2.true ((rw (w.shares.ensures.0, w.shares-then-eq-2.ensures.0) at w.eq-then-eq-2.ensures) ∙ numbers-same group_number _ _)
         | else-eq-2 w ↦ w.value-is ∙ w.if-eq-2.false ∙ fails _ _ two w.if-eq-2.false
       ]
 
   four : c.if-eq-3.value ≡ ((suites && groups) && shares) && algorithms
   four =
       elim c.if-eq-3.branch [
-        | then-eq-3 w ↦ w.value-is ∙ passes _ _ three w.if-eq-3.true (w.eq-then-eq-3.ensures ∙ list-same eqb _ _)
+        | then-eq-3 w ↦ w.value-is ∙ passes _ _ three w.if-eq-3.true ((rw (w.algorithms.ensures.0, w.algorithms-then-eq-3.ensures.0) at w.eq-then-eq-3.ensures) ∙ list-same eqb _ _)
         | else-eq-3 w ↦ w.value-is ∙ w.if-eq-3.false ∙ fails _ _ three w.if-eq-3.false
       ]
 
@@ -60,7 +60,7 @@ module _ (c : Joined-eq-3) where
 pub returns-then-eq-4 : goal.returns-then-eq-4
 returns-then-eq-4 c =
     let joined = (goal.at.returns-then-eq-4 c).Joined-eq-3 in
-    passes _ _ (four joined) c.if-eq-4.true (c.eq-then-eq-4.ensures ∙ list-same eqb _ _) ∙ regrouped joined
+    passes _ _ (four joined) c.if-eq-4.true ((rw (c.versions.ensures.0, c.versions-then-eq-4.ensures.0) at c.eq-then-eq-4.ensures) ∙ list-same eqb _ _) ∙ regrouped joined
 
 pub returns-else-eq-4 : goal.returns-else-eq-4
 returns-else-eq-4 c =

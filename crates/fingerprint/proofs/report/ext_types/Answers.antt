@@ -24,7 +24,7 @@ loop-i-preserved c =
     let l = c.loop-i in
     let s = c.args.numbers.now in
     let long : length s ≡ 64 = c.told-numbers in
-    let next = items-next s l.i 0 (omega (arith, c.loop-i-test.true)) in
+    let next = items-next s l.i 0 (omega (arith, c.loop-i-test.true, long)) in
     filled_next l.invariant (ap (map ext_type) next) (omega (arith, length-map s ext_type, long))
 
 pub returns : goal.returns

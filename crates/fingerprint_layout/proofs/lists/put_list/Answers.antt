@@ -1,43 +1,41 @@
--- The loop keeps `Standing`: the words before place i stand in the output. Assumes nothing.
-use Prim.Native.Nat.{◌+◌, ◌*◌}
-use mathlib.Core.Path.{◌≡◌, refl, sym}
-use mathlib.Core.List.{◌∷◌}
-use lib.ListN.{drop}
-use Rattle.wire.proofs.ListLaws.{length-part-to-end}
-use Rattle.fingerprint_bodies.specs.Forms.{words_in}
-use Rattle.fingerprint_lists.proofs.GoodLaws.{length-words_in}
-use Rattle.fingerprint_lists.proofs.ReadLaws.{words-next, words-end}
-use Rattle.fingerprint_layout.proofs.PieceLaws.{stand-start, stand-room, stand-next, stand-end, numbers-are, length-little}
+-- The loop keeps `Standing`: the numbers of the entries that were read stand in the output, and those still to come in the rest. Assumes nothing.
+use mathlib.Core.Path.{refl, ap, ◌∙◌}
+use Prim.Native.Nat.{◌+◌, ◌*◌, ◌≤◌}
+use lib.ListN.{length}
+use Rattle.fingerprint_bodies.specs.Entries.{front_entries}
+use Rattle.fingerprint_bodies.proofs.YieldLaws.{HoldsNext, holds, holds-next, holds-end}
+use Rattle.fingerprint_layout.proofs.PieceLaws.{stand-start, stand-room, stand-fits, stand-next, stand-count, stand-end, numbers-are, length-little}
 use native.Mathlib.Omega.{arith}
+use Rattle.fingerprint_layout.proofs.lists.put_list.Given.{Over}
 use Rattle.fingerprint_layout.proofs.lists.put_list.Goals as goal
-use Rattle.fingerprint_layout.proofs.lists.put_list.Goals.{After-be16}
+use Rattle.fingerprint_layout.proofs.lists.put_list.Goals.{In-Some}
 
-next : (c : After-be16) →
+next : (g : Over) (c : In-Some g) → HoldsNext g.E.Listed.form c.in-Some.number c.next.new.self.rest.now c.loop-number.invariant.0
+next g c = holds-next g.E.Listed.form c.loop-number.invariant.1 c.in-Some.ensures.steps
+
+fits : (g : Over) (c : In-Some g) →
+    let loop = c.loop-number in
+    2 * loop.k + 2 ≤ length loop.out
+fits g c = stand-fits c.loop-number.invariant.2 (next g c).is
+
+pub loop-number-init : goal.loop-number-init
+loop-number-init g c =
+    let form = g.E.Listed.form in
     let list = c.args.list.now in
-    let i = c.loop-i.i in
-    words_in (drop (2 * i) list) ≡ c.be16.result ∷ words_in (drop (2 * (i + 1)) list)
-next c =
-    let list = c.args.list.now in
-    words-next list c.loop-i.i c.loop-i-test.true c.be16.ensures
-
-pub loop-i-init : goal.loop-i-init
-loop-i-init c = stand-start (length-little 2) refl (omega (arith, length-words_in c.args.list.now))
-
-pub be16-requires : goal.be16-requires
-be16-requires c =
-    let args = c.args in
-    omega (arith, length-part-to-end args.list.now (2 * c.loop-i.i), c.loop-i-test.true)
+    let from = ap (λ s. s.rest.now) c.into_iter-number-iterator.ensures.into_iter_gives ∙ c.of-number-items.ensures in
+    (front_entries form list, rw from (holds form list), stand-start (length-little 2) refl c.requires)
 
 pub put-requires : goal.put-requires
-put-requires c = stand-room c.loop-i.invariant (next (goal.at.put-requires c).After-be16)
+put-requires g c = stand-room c.loop-number.invariant.2 (next g (goal.at.put-requires g c).In-Some).is
 
-pub loop-i-preserved : goal.loop-i-preserved
-loop-i-preserved c =
-    let loop = c.loop-i in
-    stand-next loop.invariant (next (goal.at.loop-i-preserved c).After-be16) c.put.ensures (omega arith)
+pub loop-number-preserved : goal.loop-number-preserved
+loop-number-preserved g c =
+    let n = next g (goal.at.loop-number-preserved g c).In-Some in
+    (n.later, n.holds, stand-next c.loop-number.invariant.2 n.is c.put.ensures (omega arith))
 
 pub returns : goal.returns
-returns c =
-    let list = c.args.list.now in
-    let loop = c.loop-i in
-    (sym (length-words_in list), stand-end loop.invariant (words-end list loop.i c.loop-i-test.false) (numbers-are 2 (words_in list)))
+returns g c =
+    let loop = c.loop-number in
+    let form = g.E.Listed.form in
+    let none_left = holds-end form loop.invariant.1 c.in-None.ensures.steps in
+    (stand-count loop.invariant.2 none_left, stand-end loop.invariant.2 none_left (numbers-are 2 (front_entries form c.args.list.now)))

@@ -14,7 +14,7 @@ unfolding name_numbers
 returns-in-Some c =
     let counts = c.args.counts.now in
     let e = sym (littles-append 2 counts _) ∙ ap (λ (n : Option Span). littles 2 (counts ++ name_numbers n)) (sym c.in-Some.is) in
-    let first = filled (length-littles 2 counts ∙ ap (λ (n : ℕ). 2 * n) c.requires.1) (plainly 2 counts _ c.put_numbers.ensures) in
+    let first = filled (length-littles 2 counts ∙ ap (λ (n : ℕ). 2 * n) c.told-counts) (plainly 2 counts _ c.put_numbers.ensures) in
     (put_as e (joined first (filled refl (plainly 2 _ _ c.put_numbers-in-Some.ensures)))).output
 
 pub returns-in-None : goal.returns-in-None
@@ -22,5 +22,5 @@ unfolding name_numbers
 returns-in-None c =
     let counts = c.args.counts.now in
     let e = sym (littles-append 2 counts _) ∙ ap (λ (n : Option Span). littles 2 (counts ++ name_numbers n)) (sym c.in-None.is) in
-    let first = filled (length-littles 2 counts ∙ ap (λ (n : ℕ). 2 * n) c.requires.1) (plainly 2 counts _ c.put_numbers.ensures) in
+    let first = filled (length-littles 2 counts ∙ ap (λ (n : ℕ). 2 * n) c.told-counts) (plainly 2 counts _ c.put_numbers.ensures) in
     (put_as e (joined first (filled refl (plainly 2 _ _ c.put_numbers-in-None.ensures)))).output

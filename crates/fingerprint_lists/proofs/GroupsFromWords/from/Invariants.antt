@@ -6,4 +6,4 @@ use Rattle.fingerprint_lists.proofs.FillLaws.{Filled}
 use Rattle.fingerprint_lists.proofs.GroupsFromWords.from.Given as goal
 
 abbrev pub invariant-loop-i : goal.invariant-loop-i
-invariant-loop-i l = Filled 64 (group 0) (map group l.numbers) l.i l.items (map group (drop l.i l.numbers))
+invariant-loop-i l = Filled 64 (group 0) (map group l.number-items) l.i l.items (map group (drop l.i l.number-items))

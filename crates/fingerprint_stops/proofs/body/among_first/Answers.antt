@@ -1,74 +1,37 @@
--- The loop keeps: the id is among those of the first k parameters exactly where it is among those of them from the place on. Assumes nothing.
-use mathlib.Core.Path.{sym, ap, ◌∙◌}
-use Prim.Native.Nat.{ℕ, ◌+◌, ◌-◌, ◌≤◌, zero-le}
-use mathlib.Core.List.{List}
-use lib.ListN.{length, take, drop, length-drop}
+-- The loop keeps: the id is among those of the first k parameters exactly where it is among those of them still to come. Assumes nothing.
+use Prim.Native.Nat.{ℕ, suc}
+use mathlib.Core.Path.{◌≡◌, sym, ap, ◌∙◌}
+use mathlib.Core.List.{◌∷◌}
 use native.Mathlib.Omega.{arith}
-use Rattle.wire.specs.Sums.{member}
-use Rattle.wire.proofs.ListLaws.{part_to_end}
 use Rattle.wire.proofs.SumLaws.{member-nil}
-use Rattle.fingerprint_parameters.specs.Code.{ParameterFound, ParameterAs}
-use Rattle.std.specs.Prelude.{Option}
-use Rattle.fingerprint_parameters.specs.declared.Parameter.{Parameter}
 use Rattle.fingerprint_order.proofs.MemberLaws.{member-first, member-later}
-use Rattle.fingerprint_stops.proofs.RepeatLaws.{ids-start, ids-end, ids-cut, ids_next}
+use Rattle.fingerprint_stops.specs.Code.{first_ids}
+use Rattle.fingerprint_stops.proofs.RepeatLaws.{first-next, first-end}
 use Rattle.fingerprint_stops.proofs.body.among_first.Goals as goal
 use Rattle.fingerprint_stops.proofs.body.among_first.Goals.{In-Some}
 
-inner : (body : List ℕ) (at : ℕ) (r : Option Parameter) → ParameterAs r (take (length body - at) (drop at body)) → ParameterAs r (drop at body)
-inner body at r h = rw (part_to_end body at) at h
+pub loop-other-init : goal.loop-other-init
+loop-other-init c = rw (c.into_iter-other-iterator.ensures.into_iter_gives, c.take-other-items.ensures.source, c.take-other-items.ensures.count, c.of.ensures)
 
-found : (c : In-Some) →
-    let args = c.args in
-    let loop = c.loop-i in
-    ParameterFound (drop loop.at args.body.now) c.in-Some.other.id c.in-Some.other.used
-found c = rw c.in-Some.is at (inner c.args.body.now c.loop-i.at c.one_parameter.result c.one_parameter.ensures)
+-- the ids still to come begin with this one
+next : (c : In-Some) →
+    let it = c.loop-other.other-iterator in
+    first_ids it.n it.iter.rest.now ≡ c.in-Some.other ∷ first_ids c.next.new.self.n c.next.new.self.iter.rest.now
+next c =
+    let it = c.loop-other.other-iterator in
+    let t = c.in-Some.ensures.steps in
+    let count : it.n ≡ suc c.next.new.self.n = omega (arith, t.1) in
+    ap (λ (m : ℕ). first_ids m it.iter.rest.now) count ∙ first-next it.iter.rest.now c.next.new.self.iter.rest.now c.in-Some.other t.0 c.next.new.self.n
 
-fits : (c : In-Some) →
-    let args = c.args in
-    let loop = c.loop-i in
-    loop.at + c.in-Some.other.used ≤ length args.body.now
-fits c =
-    let args = c.args in
-    let loop = c.loop-i in
-    omega (arith, (found c).within, length-drop loop.at args.body.now, loop.invariant.0)
+pub returns-then-other-id : goal.returns-then-other-id
+returns-then-other-id c =
+    sym (c.loop-other.invariant ∙ rw (next (goal.at.returns-then-other-id c).In-Some) (member-first c.args.id _ _ (sym c.if-other-id.true)))
 
-pub loop-i-init : goal.loop-i-init
-loop-i-init c =
-    let args = c.args in
-    (zero-le, ap (λ (l : List ℕ). member args.id l) (ids-start args.body.now args.k))
-
-pub returns-in_default : goal.returns-in_default
-returns-in_default c =
-    let args = c.args in
-    let loop = c.loop-i in
-    let test = c.loop-i-test in
-    let cut = rw c.in_default.is at (inner c.args.body.now c.loop-i.at c.one_parameter.result c.one_parameter.ensures) in
-    sym (loop.invariant.1 ∙ rw (ids-cut args.body.now args.k loop._i loop.at test.true cut) (member-nil args.id))
-
-pub returns-then-id-other : goal.returns-then-id-other
-returns-then-id-other c =
-    let args = c.args in
-    let loop = c.loop-i in
-    let test = c.loop-i-test in
-    let next = ids_next args.body.now args.k loop._i loop.at test.true _ _ (found (goal.at.returns-then-id-other c).In-Some) in
-    sym (loop.invariant.1 ∙ rw next (member-first args.id _ _ c.if-id-other.true))
-
-pub overflow_add-at : goal.overflow_add-at
-overflow_add-at c = omega (arith, fits (goal.at.overflow_add-at c).In-Some)
-
-pub loop-i-preserved : goal.loop-i-preserved
-loop-i-preserved c =
-    let args = c.args in
-    let loop = c.loop-i in
-    let test = c.loop-i-test in
-    let next = ids_next args.body.now args.k loop._i loop.at test.true _ _ (found (goal.at.loop-i-preserved c).In-Some) in (
-      fits (goal.at.loop-i-preserved c).In-Some,
-      loop.invariant.1 ∙ rw next (member-later args.id _ _ c.if-id-other.false),
-    )
+pub loop-other-preserved : goal.loop-other-preserved
+loop-other-preserved c =
+    c.loop-other.invariant ∙ rw (next (goal.at.loop-other-preserved c).In-Some) (member-later c.args.id _ _ (λ e. c.if-other-id.false (sym e)))
 
 pub returns : goal.returns
 returns c =
-    let args = c.args in
-    let loop = c.loop-i in
-    sym (loop.invariant.1 ∙ rw (ids-end args.body.now args.k loop._i loop.at c.loop-i-test.false) (member-nil args.id))
+    let it = c.loop-other.other-iterator in
+    sym (c.loop-other.invariant ∙ rw (first-end it.iter.rest.now c.next.new.self.iter.rest.now it.n c.in-None.ensures.steps) (member-nil c.args.id))

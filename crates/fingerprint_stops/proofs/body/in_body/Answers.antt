@@ -18,8 +18,8 @@ use Rattle.fingerprint_stops.proofs.body.in_body.Goals as goal
 use Rattle.fingerprint_stops.proofs.body.in_body.Goals.{After-ask_body}
 
 -- the kind is the type's
-same_kind : (c : After-ask_body) → meant c.of-kind.result ≡ kind c.args.t
-same_kind c = c.of-kind.ensures
+same_kind : (c : After-ask_body) → meant c.from-kind.result ≡ kind c.args.t
+same_kind c = c.from-kind.ensures
 
 number_is : (c : After-ask_body) → told_number c.ask_body.result ≡ asked (kind c.args.t) c.args.body.now
 number_is c = c.ask_body.ensures.is ∙ ap (λ (k : Kind). asked k c.args.body.now) (same_kind c)

@@ -1,10 +1,11 @@
 -- `put_list`: the label and the numbers before the item stand in the output. Assumes nothing.
 use Prim.Native.Nat.{ℕ}
-use mathlib.Core.Path.{refl, ap, ◌∙◌}
+use mathlib.Core.Path.{refl, sym, ap, ◌∙◌}
 use mathlib.Core.List.{List, [], ◌∷◌, ◌++◌}
 use lib.ListN.{length}
+use Rattle.std.proofs.lemmas.List.{map_more}
 use Rattle.script_writing.proofs.AnswerLaws.{written_one}
-use Rattle.reports.proofs.PartLaws.{list-start, list-next, map_next}
+use Rattle.reports.proofs.PartLaws.{list-start, list-next}
 use borrow.Author.Rules.{rules}
 use Rattle.reports.proofs.lists.put_list.Invariants.{parts}
 use Rattle.reports.proofs.lists.put_list.Goals as goal
@@ -26,6 +27,6 @@ loop-item-preserved g c =
     let t : List ℕ = g.T.Entry.text item.result in
     let next =
     ap (λ x. parts g.T.Entry.text items l.item-index ++ (g.T.Entry.text x ∷ [])) item.is
-    ∙ map_next items l.item-index item.result c.loop-item-test.true g.T.Entry.text in
+    ∙ sym (map_more g.T.Entry.text items l.item-index item.result c.loop-item-test.true) in
     list-next args.label.now (parts g.T.Entry.text args.items.now) (length args.items.now) text.result text.new.out l.at l.item-index l.out l.invariant put.result (t ∷ []) put.new.out
     c.loop-item-test.true next put.auto.out (written_one t put.result _ put.new.out put.ensures)

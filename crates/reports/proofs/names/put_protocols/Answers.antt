@@ -1,5 +1,4 @@
--- `reports::names::put_protocols` meets its contract: the label and the names before place i stand in the output. Assumes nothing.
-use Prim.Native.Nat.{◌<◌}
+-- `reports::names::put_protocols` meets its contract: the label and the names before the span stand in the output. Assumes nothing.
 use mathlib.Core.Path.{refl}
 use lib.ListN.{length}
 use Rattle.fingerprint_lists.specs.Arrays.{span}
@@ -7,23 +6,21 @@ use Rattle.reports.specs.Lines.{each, alpn_label}
 use Rattle.reports.specs.Code.{span_parts}
 use Rattle.reports.proofs.PartLaws.{list-start, list-next, each_next}
 use borrow.Author.Rules.{rules}
-use native.Mathlib.Omega.{arith}
 use Rattle.reports.proofs.names.put_protocols.Invariants.{parts}
 use Rattle.reports.proofs.names.put_protocols.Goals as goal
 
-pub loop-i-init : goal.loop-i-init
+pub loop-span-init : goal.loop-span-init
 unfolding each
-loop-i-init c =
+loop-span-init c =
     let args = c.args in
     let text = c.put_text-at in
-    list-start alpn_label (parts args.hello.now args.spans) args.count text.result text.new.out refl (search rules)
+    list-start alpn_label (parts args.hello.now args.spans.now) (length args.spans.now) text.result text.new.out refl (search rules)
 
-pub loop-i-preserved : goal.loop-i-preserved
-loop-i-preserved c =
+pub loop-span-preserved : goal.loop-span-preserved
+loop-span-preserved c =
     let args = c.args in
     let text = c.put_text-at in
-    let l = c.loop-i in
+    let l = c.loop-span in
     let range = c.put_range-at in
-    let inside : l.i < length args.spans = omega (arith, c.requires.0.long, c.requires.0.few) in
-    list-next alpn_label (parts args.hello.now args.spans) args.count text.result text.new.out l.at l.i l.out l.invariant range.result _ range.new.out
-    c.loop-i-test.true (each_next args.spans l.i (span 0 0) inside (span_parts args.hello.now)) range.auto.out range.ensures
+    list-next alpn_label (parts args.hello.now args.spans.now) (length args.spans.now) text.result text.new.out l.at l.span-index l.out l.invariant range.result _ range.new.out
+    c.loop-span-test.true (each_next args.spans.now l.span-index (span 0 0) c.loop-span-test.true (span_parts args.hello.now)) range.auto.out range.ensures

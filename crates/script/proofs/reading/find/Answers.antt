@@ -1,28 +1,28 @@
 -- `find` meets its contract: past the end there is nothing to search, and else the distance is that from the place. Assumes nothing.
-use Rattle.std.proofs.Common.{◌≡◌, ℕ, List, ◌==◌, drop, sym, ap, ◌∙◌, arith, length-drop}
+use Rattle.std.proofs.Common.{◌≡◌, ◌==◌, drop, sym, ◌∙◌, arith, rules, tests, length-drop}
 use Rattle.std.specs.Prelude.{position}
+use Rattle.std.proofs.lemmas.Iterator.{YieldsList-from_slice}
+use Rattle.std.proofs.lemmas.Iterator.Search.{position_from_yields_List}
 use Rattle.wire.proofs.ListLaws.{part_to_end}
-use Rattle.script.proofs.ScanLaws.{distance-end, position-some, position-none, found}
+use Rattle.script.proofs.ScanLaws.{position-some, position-none, found-past, found_some, found_none}
 use Rattle.script.proofs.reading.find.Goals as goal
-use Rattle.script.proofs.reading.find.Goals.{After-place_of}
+use Rattle.script.proofs.reading.find.Goals.{After-position}
 
 -- what is searched: the bytes from the place on
-searched : (c : After-place_of) → c.place_of.result ≡ position (λ x. x == c.args.byte) (drop c.args.from c.args.s.now)
-searched c = c.place_of.ensures ∙ ap (λ (t : List ℕ). position (λ x. x == c.args.byte) t) (part_to_end c.args.s.now c.args.from)
+searched : (c : After-position) → c.position.result ≡ position (λ x. x == c.args.byte) (drop c.args.from c.args.s.now)
+searched c =
+    position_from_yields_List (λ x. x == c.args.byte) _ _ c.position.result c.position.ensures.ran
+    (YieldsList-from_slice (drop c.args.from c.args.s.now) (c.iter.ensures.rest ∙ part_to_end c.args.s.now c.args.from))
+    (λ x b q k. search (rules, tests))
 
-pub returns-then-s-from : goal.returns-then-s-from
-returns-then-s-from c =
-    let args = c.args in
-    found args.s.now args.from args.byte args.from (omega (arith, distance-end args.byte args.s.now args.from c.if-s-from.true))
+pub returns-then-s-from-clause-is : goal.returns-then-s-from-clause-is
+returns-then-s-from-clause-is c = found-past c.args.s.now c.args.from c.args.byte c.if-s-from.true
 
-pub returns-in-Some : goal.returns-in-Some
-returns-in-Some c =
-    let args = c.args in
-    let e = position-some args.byte (drop args.from args.s.now) c.in-Some.n (sym c.in-Some.is ∙ searched (goal.at.returns-in-Some c).After-place_of) in
-    found args.s.now args.from args.byte _ (omega (arith, e.0))
+pub returns-clause-is : goal.returns-clause-is
+returns-clause-is c =
+    let e = position-some c.args.byte (drop c.args.from c.args.s.now) c.in_ok-n.n (sym c.in_ok-n.was ∙ searched (goal.at.returns-clause-is c).After-position) in
+    found_some c.args.s.now c.args.from c.args.byte c.in_ok-n.n e.0 (omega (arith, e.1, length-drop c.args.from c.args.s.now))
 
-pub returns-in-None : goal.returns-in-None
-returns-in-None c =
-    let args = c.args in
-    let e = position-none args.byte (drop args.from args.s.now) (sym c.in-None.is ∙ searched (goal.at.returns-in-None c).After-place_of) in
-    found args.s.now args.from args.byte _ (omega (arith, e, length-drop args.from args.s.now))
+pub returns-in_err-n-clause-is : goal.returns-in_err-n-clause-is
+returns-in_err-n-clause-is c =
+    c.from_residual.ensures ∙ found_none c.args.s.now c.args.from c.args.byte (position-none c.args.byte (drop c.args.from c.args.s.now) (sym c.in_err-n.was ∙ searched (goal.at.returns-in_err-n-clause-is c).After-position))

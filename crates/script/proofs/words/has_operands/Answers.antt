@@ -1,20 +1,15 @@
--- `has_operands` asks for the last operand and for one more, as its definition does. Assumes nothing.
-use Rattle.std.proofs.Common.{◌≡◌, ◌+◌, true, false, not, refl}
-use Rattle.std.specs.Option.{is_some}
-use Rattle.script.specs.Words.{word_of, has_operands}
+-- `has_operands` meets its contract: the parts between the spaces are counted. Assumes nothing.
+use Rattle.std.proofs.Common.{◌≡◌, ◌==◌, length, rules, tests}
+use Rattle.std.proofs.lemmas.Iterator.Consumers.{count_from_yields_List}
+use Rattle.std.proofs.lemmas.Iterator.Splits.{YieldsList-from_slice_split}
+use Rattle.script.specs.Scan.{space}
+use Rattle.script.proofs.WordLaws.{parts, operands-count}
 use Rattle.script.proofs.words.has_operands.Goals as goal
 
-pub returns-then-is_some : goal.returns-then-is_some
-unfolding has_operands
-returns-then-is_some c =
+pub returns : goal.returns
+returns c =
     let line = c.args.line.now in
-    let n = c.args.count in
-    let last : is_some (word_of line n) ≡ true = cc (c.find_word.ensures.is) in
-    let more : is_some (word_of line (n + 1)) ≡ not c.is_none.result = cc (c.find_word-then-is_some.ensures.is) in
-    rw (last, more) (elim c.is_none.result as (λ b. b ≡ not (not b)) [ true ↦ refl | false ↦ refl ])
-
-pub returns-else-is_some : goal.returns-else-is_some
-unfolding has_operands
-returns-else-is_some c =
-    let last : is_some (word_of c.args.line.now c.args.count) ≡ false = cc (c.find_word.ensures.is) in
-    rw last c.if-is_some.false
+    let count : c.count.result ≡ length (parts line) =
+    count_from_yields_List c.split.result _ c.count.ensures.ran
+    (YieldsList-from_slice_split _ (λ x. x == space) line c.split.ensures.rest c.split.ensures.done c.split.ensures.closure (λ x b q k. search (rules, tests))) in
+    rw (count, c.from.ensures) (operands-count line c.args.count)

@@ -4,7 +4,7 @@ use mathlib.Core.Path.{◌≡◌, refl, sym, ap, ◌∙◌}
 use mathlib.Core.List.{List}
 use native.Mathlib.Omega.{arith}
 use lib.ListN.{length, take, get_or}
-use lib.Seq.{take-length, length-take-le}
+use lib.Seq.{take_all, length-take-le}
 use Rattle.wire.specs.Front.{front}
 use Rattle.wire.proofs.FrontLaws.{front-none, lent-front}
 use Rattle.script_writing.specs.Hex.{hex_pair, hex_text}
@@ -16,28 +16,22 @@ pub returns-then-out-bytes : goal.returns-then-out-bytes
 returns-then-out-bytes c =
     not_written (hex_text c.args.bytes.now) c.args.out.now (omega (arith, length-hex_text c.args.bytes.now))
 
-pub loop-b-init : goal.loop-b-init
+pub loop-i-init : goal.loop-i-init
 unfolding hex_text
-loop-b-init c = (refl, front-none _, refl)
+loop-i-init c = front-none _
 
-pub loop-b-preserved : goal.loop-b-preserved
-loop-b-preserved c =
-    let l = c.loop-b in
+pub loop-i-preserved : goal.loop-i-preserved
+loop-i-preserved c =
+    let l = c.loop-i in
     let s = c.args.bytes.now in
     let w = c.put_pair in
-    let long : length (hex_text (take l.b-index s)) ≡ l.at =
-    length-hex_text (take l.b-index s) ∙ ap (λ (k : ℕ). 2 * k) (length-take-le l.b-index s (omega arith)) ∙ sym l.invariant.0 in
-    let one = lent-front (hex_text (take l.b-index s)) (hex_pair (get_or s l.b-index 0)) c.args.out.now l.out w.new.out l.at _ long
-    l.invariant.1 refl w.ensures in (
-      omega arith,
-      one ∙ ap (λ (t : List ℕ). front t c.args.out.now) (sym (hex_text-more l.b-index s (omega arith))),
-      omega arith,
-    )
+    let long : length (hex_text (take l.i s)) ≡ 2 * l.i = length-hex_text (take l.i s) ∙ ap (λ (k : ℕ). 2 * k) (length-take-le l.i s (omega arith)) in
+    let one = lent-front (hex_text (take l.i s)) (hex_pair (get_or s l.i 0)) c.args.out.now l.out w.new.out (2 * l.i) _ long l.invariant refl w.ensures in
+    one ∙ ap (λ (t : List ℕ). front t c.args.out.now) (sym (hex_text-more l.i s (omega arith)))
 
 pub returns : goal.returns
 returns c =
     let s = c.args.bytes.now in
-    let l = c.loop-b in
-    let e : l.b-index ≡ length s = omega arith in
-    written (hex_text s) l.at c.args.out.now l.out (omega (arith, length-hex_text s)) (omega (arith, length-hex_text s))
-    (l.invariant.1 ∙ rw (e, take-length))
+    let l = c.loop-i in
+    written (hex_text s) _ c.args.out.now l.out (omega (arith, length-hex_text s)) (omega (arith, length-hex_text s))
+    (l.invariant ∙ ap (λ (t : List ℕ). front (hex_text t) c.args.out.now) (take_all l.i s (omega arith)))

@@ -4,4 +4,4 @@ use Rattle.script_writing.proofs.numbers.put_word.Goals as goal
 
 pub returns : goal.returns
 unfolding word_text
-returns c = c.put_digits.ensures
+returns c = rw c.from.ensures at c.put_digits.ensures

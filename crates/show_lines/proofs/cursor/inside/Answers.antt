@@ -18,7 +18,7 @@ pub returns-in-Extension : goal.returns-in-Extension
 returns-in-Extension c =
     let args = c.args in
     c.body_line.ensures
-    ∙ ap (λ (k : Kind). body_line (slot k)) c.of.ensures
+    ∙ ap (λ (k : Kind). body_line (slot k)) c.from.ensures
     ∙ inside-extension args.hello.now (cursor_of args.c) args.line (ap kind_number c.in-Extension.is) _ c.be16.ensures
 
 pub returns-then-hello-line : goal.returns-then-hello-line

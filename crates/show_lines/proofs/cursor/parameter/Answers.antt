@@ -1,13 +1,10 @@
 -- Two numbers are read, as in `parameter_front`. Assumes nothing.
-use native.Mathlib.Omega.{arith}
 use mathlib.Core.Path.{◌∙◌}
 use lib.ListN.{drop}
 use Rattle.wire.proofs.ListLaws.{part_to_end}
 use Rattle.varint.specs.Varint.{Found}
 use Rattle.std.specs.Prelude.{Ok}
-use Rattle.fingerprint_parameters.proofs.OneParameter.{head-within}
 use Rattle.show_lines.proofs.CodeLaws.{no-id, no_length, whole-front}
-use borrow.Author.Rules.{rules}
 use Rattle.show_lines.proofs.cursor.parameter.Goals as goal
 use Rattle.show_lines.proofs.cursor.parameter.Goals.{In-Ok, In-Ok-read}
 
@@ -24,32 +21,14 @@ length_found c =
 pub returns-in_default : goal.returns-in_default
 returns-in_default c =
     let args = c.args in
-    no-id args.at args.rest.now _ (rw c.in_default.is at c.read.ensures)
-
-pub slice_bounds-read-count : goal.slice_bounds-read-count
-slice_bounds-read-count c = (id-found c).bounds.1
-
-pub slice_bounds-read-start : goal.slice_bounds-read-start
-slice_bounds-read-start c = omega (arith, (id-found c).bounds.1)
+    c.rest_line.ensures ∙ no-id args.at args.rest.now _ (rw c.in_default.is at c.read.ensures)
 
 pub returns-in_default-read : goal.returns-in_default-read
 returns-in_default-read c =
     let args = c.args in
     let s = args.rest.now in
     let f = rw (part_to_end s c.in-Ok.id.width, c.in_default-read.is) at c.read-2.ensures in
-    no_length args.at s _ (id-found (goal.at.returns-in_default-read c).In-Ok) _ f
-
-pub overflow_add-w : goal.overflow_add-w
-overflow_add-w c =
-    let at-id = (goal.at.overflow_add-w c).In-Ok in
-    let at_length = (goal.at.overflow_add-w c).In-Ok-read in
-    omega (arith, head-within c.args.rest.now _ (id-found at-id) _ (length_found at_length))
-
-pub vector-requires : goal.vector-requires
-vector-requires c =
-    let at-id = (goal.at.vector-requires c).In-Ok in
-    let at_length = (goal.at.vector-requires c).In-Ok-read in
-    (head-within c.args.rest.now _ (id-found at-id) _ (length_found at_length), search rules)
+    c.rest_line-in_default-read.ensures ∙ no_length args.at s _ (id-found (goal.at.returns-in_default-read c).In-Ok) _ f
 
 pub returns : goal.returns
 returns c =

@@ -23,7 +23,7 @@ here :
     let scid = args.scid.now in
     let tape = args.tape.now in
     let loop = c.loop-t in
-    let p = profile_of args.profile in
+    let p = profile_of args.profile.now in
     Drawing (build_extensions p name scid tape types args.at)
     (followed (build_extension p name scid tape (get_or types loop.t-index 0) loop.next) (build_extensions p name scid tape (drop (loop.t-index + 1) types)))
     args.out.now loop.out loop.n
@@ -31,7 +31,7 @@ here c =
     let args = c.args in
     let loop = c.loop-t in
     same-part
-    (extensions-from (profile_of args.profile) args.name.now args.scid.now args.tape.now (map type_number args.types.now) loop.t-index loop.next
+    (extensions-from (profile_of args.profile.now) args.name.now args.scid.now args.tape.now (map type_number args.types.now) loop.t-index loop.next
     (omega (arith, length-map args.types.now type_number, c.loop-t-test.true)))
     loop.invariant
 
@@ -47,7 +47,7 @@ build_extension-w-requires c =
     let in-loop = (goal.at.build_extension-w-requires c).In-loop-t in
     let args = in-loop.args in
     let pre = in-loop.requires in
-    let p = profile_of args.profile in
+    let p = profile_of args.profile.now in
     let types = map type_number args.types.now in
     let name = args.name.now in
     let scid = args.scid.now in
@@ -67,7 +67,7 @@ pub overflow_add-n : goal.overflow_add-n
 overflow_add-n c =
     let in-loop = (goal.at.overflow_add-n c).In-loop-t in
     let args = c.args in
-    let p = profile_of args.profile in
+    let p = profile_of args.profile.now in
     let types = map type_number args.types.now in
     let loop = c.loop-t in
     let next = build_extension p args.name.now args.scid.now args.tape.now (get_or types loop.t-index 0) loop.next in
@@ -79,7 +79,7 @@ pub loop-t-preserved : goal.loop-t-preserved
 loop-t-preserved c =
     let in-loop = (goal.at.loop-t-preserved c).In-loop-t in
     let args = c.args in
-    let p = profile_of args.profile in
+    let p = profile_of args.profile.now in
     let types = map type_number args.types.now in
     let loop = c.loop-t in
     let next = build_extension p args.name.now args.scid.now args.tape.now (get_or types loop.t-index 0) loop.next in

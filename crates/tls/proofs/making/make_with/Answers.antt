@@ -16,7 +16,7 @@ returns-in_err-ask_name c =
     let args = c.args in
     let p = err_from_is_err_and c.from_residual.result c.from_residual.ensures.1 in
     rw (p.1, p.2)
-    (refuses-name (profile_of args.profile) args.name.now args.scid.now args.tape.now args.out.now _ (sym c.in_err-ask_name.ensures))
+    (refuses-name (profile_of args.profile.now) args.name.now args.scid.now args.tape.now args.out.now _ (sym c.in_err-ask_name.ensures))
 
 pub ask_room-requires : goal.ask_room-requires
 ask_room-requires c = (c.requires, omega (arith, (named c.args.name.now (sym c.in_ok-ask_name.ensures)).short))
@@ -26,20 +26,20 @@ returns-in_err-ask_room c =
     let args = c.args in
     let p = err_from_is_err_and c.from_residual-in_err-ask_room.result c.from_residual-in_err-ask_room.ensures.1 in
     rw (p.1, p.2)
-    (refuses-room (profile_of args.profile) args.name.now args.scid.now args.tape.now args.out.now (sym c.in_ok-ask_name.ensures) _ (sym c.in_err-ask_room.ensures))
+    (refuses-room (profile_of args.profile.now) args.name.now args.scid.now args.tape.now args.out.now (sym c.in_ok-ask_name.ensures) _ (sym c.in_err-ask_room.ensures))
 
 -- no question was answered "no"
 room :
     (c : In_ok-ask_room) →
     let args = c.args in
-    HelloRoom args.profile args.name.now args.scid.now args.tape.now (length args.out.now)
+    HelloRoom args.profile.now args.name.now args.scid.now args.tape.now (length args.out.now)
 room c =
     let args = c.args in
-    let p = profile_of args.profile in
+    let p = profile_of args.profile.now in
     let name = args.name.now in
     let scid = args.scid.now in
     let tape = args.tape.now in
-    hello-room args.profile name scid tape c.requires (sym c.in_ok-ask_name.ensures) (sym c.in_ok-ask_room.ensures) (suffices p name scid tape) (hello-fits p name scid tape)
+    hello-room args.profile.now name scid tape c.requires (sym c.in_ok-ask_name.ensures) (sym c.in_ok-ask_room.ensures) (suffices p name scid tape) (hello-fits p name scid tape)
 
 pub put_hello-made-requires : goal.put_hello-made-requires
 put_hello-made-requires c = room (goal.at.put_hello-made-requires c).In_ok-ask_room
@@ -47,5 +47,5 @@ put_hello-made-requires c = room (goal.at.put_hello-made-requires c).In_ok-ask_r
 pub returns : goal.returns
 returns c =
     let args = c.args in
-    makes-hello (profile_of args.profile) args.name.now args.scid.now args.tape.now args.out.now (sym c.in_ok-ask_name.ensures) (sym c.in_ok-ask_room.ensures)
+    makes-hello (profile_of args.profile.now) args.name.now args.scid.now args.tape.now args.out.now (sym c.in_ok-ask_name.ensures) (sym c.in_ok-ask_room.ensures)
     (room (goal.at.returns c).In_ok-ask_room).has c.put_hello-made.ensures

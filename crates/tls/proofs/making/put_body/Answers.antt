@@ -10,29 +10,29 @@ pub put_fields-a-requires : goal.put_fields-a-requires
 put_fields-a-requires c =
     let start = c in
     let args = start.args in
-    let rises = block-rises args.profile args.name.now args.scid.now args.tape.now (extensions-rise (profile_of args.profile) args.name.now args.scid.now args.tape.now) in
-    fields-room args.profile args.name.now args.scid.now args.tape.now start.requires rises
+    let rises = block-rises args.profile.now args.name.now args.scid.now args.tape.now (extensions-rise (profile_of args.profile.now) args.name.now args.scid.now args.tape.now) in
+    fields-room args.profile.now args.name.now args.scid.now args.tape.now start.requires rises
 
 pub slice_bounds-put_block-count : goal.slice_bounds-put_block-count
 slice_bounds-put_block-count c =
     let put-fields = c.put_fields-a in
     let start = c in
     let args = start.args in
-    place-within (fields-stand args.profile args.name.now args.scid.now args.tape.now start.requires put-fields.ensures)
+    place-within (fields-stand args.profile.now args.name.now args.scid.now args.tape.now start.requires put-fields.ensures)
 
 pub slice_bounds-put_block-start : goal.slice_bounds-put_block-start
 slice_bounds-put_block-start c =
     let put-fields = c.put_fields-a in
     let start = c in
     let args = start.args in
-    place-within (fields-stand args.profile args.name.now args.scid.now args.tape.now start.requires put-fields.ensures)
+    place-within (fields-stand args.profile.now args.name.now args.scid.now args.tape.now start.requires put-fields.ensures)
 
 pub put_block-w-requires : goal.put_block-w-requires
 put_block-w-requires c =
     let put-fields = c.put_fields-a in
     let start = c in
     let args = start.args in
-    block_room args.profile args.name.now args.scid.now args.tape.now start.requires put-fields.ensures
+    block_room args.profile.now args.name.now args.scid.now args.tape.now start.requires put-fields.ensures
 
 pub overflow_add-result : goal.overflow_add-result
 overflow_add-result c =
@@ -40,7 +40,7 @@ overflow_add-result c =
     let put-block = c.put_block-w in
     let start = c in
     let args = start.args in
-    let all = body-put args.profile args.name.now args.scid.now args.tape.now start.requires put-fields.ensures put-block.ensures in
+    let all = body-put args.profile.now args.name.now args.scid.now args.tape.now start.requires put-fields.ensures put-block.ensures in
     omega (arith, all.put.count, start.requires.has.small)
 
 pub returns : goal.returns
@@ -49,4 +49,4 @@ returns c =
     let put-block = c.put_block-w in
     let start = c in
     let args = start.args in
-    body-put args.profile args.name.now args.scid.now args.tape.now start.requires put-fields.ensures put-block.ensures
+    body-put args.profile.now args.name.now args.scid.now args.tape.now start.requires put-fields.ensures put-block.ensures

@@ -18,32 +18,32 @@ written c =
     let w8 = c.w8 in
     let start = c in
     let args = start.args in
-    type-stands args.profile args.name.now args.scid.now args.tape.now args.out.now start.requires put-body.ensures w8.ensures
+    type-stands args.profile.now args.name.now args.scid.now args.tape.now args.out.now start.requires put-body.ensures w8.ensures
 
 pub slice_bounds-put_body-count : goal.slice_bounds-put_body-count
 slice_bounds-put_body-count c =
     let start = c in
     let args = start.args in
-    hello-long args.profile args.name.now args.scid.now args.tape.now start.requires
+    hello-long args.profile.now args.name.now args.scid.now args.tape.now start.requires
 
 pub slice_bounds-put_body-start : goal.slice_bounds-put_body-start
 slice_bounds-put_body-start c =
     let start = c in
     let args = start.args in
-    hello-long args.profile args.name.now args.scid.now args.tape.now start.requires
+    hello-long args.profile.now args.name.now args.scid.now args.tape.now start.requires
 
 pub put_body-w-requires : goal.put_body-w-requires
 put_body-w-requires c =
     let start = c in
     let args = start.args in
-    body-room args.profile args.name.now args.scid.now args.tape.now args.out.now start.requires
+    body-room args.profile.now args.name.now args.scid.now args.tape.now args.out.now start.requires
 
 pub w8-requires : goal.w8-requires
 w8-requires c =
     let put-body = c.put_body-w in
     let start = c in
     let args = start.args in
-    omega (arith, body_back args.profile args.name.now args.scid.now args.tape.now args.out.now start.requires put-body.ensures)
+    omega (arith, body_back args.profile.now args.name.now args.scid.now args.tape.now args.out.now start.requires put-body.ensures)
 
 pub slice_bounds-w24-count : goal.slice_bounds-w24-count
 slice_bounds-w24-count c = place-within (written c)
@@ -56,7 +56,7 @@ overflow_cast-w c =
     let put-body = c.put_body-w in
     let start = c in
     let args = start.args in
-    omega (arith, body-small args.profile args.name.now args.scid.now args.tape.now args.out.now start.requires put-body.ensures)
+    omega (arith, body-small args.profile.now args.name.now args.scid.now args.tape.now args.out.now start.requires put-body.ensures)
 
 pub w24-requires : goal.w24-requires
 w24-requires c =
@@ -68,7 +68,7 @@ overflow_add-result c =
     let put-body = c.put_body-w in
     let start = c in
     let args = start.args in
-    omega (arith, body-small args.profile args.name.now args.scid.now args.tape.now args.out.now start.requires put-body.ensures)
+    omega (arith, body-small args.profile.now args.name.now args.scid.now args.tape.now args.out.now start.requires put-body.ensures)
 
 pub returns : goal.returns
 returns c =
@@ -78,4 +78,4 @@ returns c =
     let args = start.args in
     let n = c.put_body-w.result.length in
     let head = last_written (digits 256 3 n) (written (goal.at.returns c).After-slice_known-3-1) (filled (length_digits 256 3 n) w24.ensures) in
-    hello-put args.profile args.name.now args.scid.now args.tape.now args.out.now start.requires put-body.ensures head.output
+    hello-put args.profile.now args.name.now args.scid.now args.tape.now args.out.now start.requires put-body.ensures head.output

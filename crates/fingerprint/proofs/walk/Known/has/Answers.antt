@@ -1,17 +1,17 @@
 -- A type without its mark is among none. Assumes nothing.
 use mathlib.Core.Path.{◌∙◌, sym, ap}
+use Prim.Native.Nat.{ℕ, ◌%◌}
+use lib.ListN.{get_or}
 use mathlib.Core.Bool.{false}
-use Prim.Native.Nat.{ℕ}
-use lib.ListN.{take, get_or}
 use Rattle.fingerprint_parameters.proofs.MarkLaws.{unmarked-new}
 use Rattle.fingerprint_parameters.proofs.MemberLaws.{contains-member}
 use Rattle.fingerprint.proofs.walk.Known.has.Goals as goal
 
-pub returns-then-marks-mark : goal.returns-then-marks-mark
-returns-then-marks-mark c = c.contains.ensures.value ∙ contains-member c.args.t (take c.args.self.now.count c.args.self.now.types.now)
+pub returns-then-has : goal.returns-then-has
+returns-then-has c = c.contains.ensures.value ∙ contains-member c.args.t c.args.self.now.types.now
 
-pub returns-else-marks-mark : goal.returns-else-marks-mark
-returns-else-marks-mark c =
+pub returns-else-has : goal.returns-else-has
+returns-else-has c =
     let known = c.args.self.now in
-    let no-mark = ap (λ (m : ℕ). get_or known.marks.now m false) (sym c.mark.ensures) ∙ c.if-marks-mark.false in
-    c.if-marks-mark.false ∙ sym (unmarked-new known.marks.now (take known.count known.types.now) c.args.t known.marked no-mark)
+    let no-mark = ap (λ (n : ℕ). get_or known.marks.now.rests (n % 64) false) (sym c.from.ensures) ∙ sym c.has.ensures ∙ c.if-has.false in
+    c.if-has.false ∙ sym (unmarked-new known.marks.now.rests known.types.now c.args.t known.marked no-mark)

@@ -1,7 +1,0 @@
--- `find_word` keeps `Passing`: where the present word stands, and that the word asked for is as many words on. Assumes nothing.
-use Rattle.std.proofs.Common.{◌-◌}
-use Rattle.script.proofs.WordLaws.{Passing}
-use Rattle.script.proofs.words.find_word.Given as goal
-
-abbrev pub invariant-loop : goal.invariant-loop
-invariant-loop l = Passing l.line l.k l.start l.end (l.k - l.counter)

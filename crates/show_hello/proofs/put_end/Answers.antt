@@ -1,6 +1,0 @@
--- `put_end` meets its contract: the last line's end, as the code has it. Assumes nothing.
-use native.Mathlib.Numerals.{add-one}
-use Rattle.show_hello.proofs.put_end.Goals as goal
-
-pub returns : goal.returns
-returns c = rw add-one at c.put_line.ensures 26
