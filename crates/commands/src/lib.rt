@@ -29,13 +29,43 @@ pub fn command(
     }
     let call = Call { line, command };
     let value = call.read_value()?;
+    answer_call(rt, call, value, kept, last, out)
+}
+
+// Reads the bytes that the command reads. Here and in `answer_filled` a buffer is what the function begins with: one that stands after an
+// early return is cleared twice, at the entry and in its place.
+fn answer_call(
+    rt: &impl Files,
+    call: Call<'_>,
+    value: u64,
+    kept: &[u8],
+    last: &mut [u8],
+    out: &mut [u8],
+) -> Result<Said, Fault>
+    ensures { IfOk result (λ said. Fits (length last.old) (length out.old) said) }
+{
     let mut bytes = room::<INPUTS>();
     let inputs = call.read_inputs(rt, kept, &mut bytes)?;
+    answer_filled(rt, call, value, inputs, kept, last, out)
+}
+
+// Reads the buffers that the command fills.
+fn answer_filled(
+    rt: &impl Files,
+    call: Call<'_>,
+    value: u64,
+    inputs: Inputs<'_>,
+    kept: &[u8],
+    last: &mut [u8],
+    out: &mut [u8],
+) -> Result<Said, Fault>
+    ensures { IfOk result (λ said. Fits (length last.old) (length out.old) said) }
+{
     let mut buffer = room::<OPERAND>();
-    let buffer = call.read_buffer(rt, 0, kept, &mut buffer)?;
     let mut marks = room::<OPERAND>();
+    let buffer = call.read_buffer(rt, 0, kept, &mut buffer)?;
     let marks = call.read_buffer(rt, 1, kept, &mut marks)?;
-    Ok(answer(command, value, inputs, buffer, marks, last, out))
+    Ok(answer(call.command, value, inputs, buffer, marks, last, out))
 }
 
 // Answers a command whose operands are read.

@@ -116,7 +116,8 @@ impl Call<'_> {
         })
     }
 
-    // Reads a buffer that the command fills, the one that has i others before it; it is empty where the command fills no more than i.
+    // Reads a buffer that the command fills, the one that has i others before it; it is empty where the command fills no more than i. It may
+    // have as many bytes as the output, so no `read_word`, which stops at what an operand may have.
     pub fn read_buffer<'a>(
         &self,
         rt: &impl Files,
@@ -126,7 +127,10 @@ impl Call<'_> {
     ) -> Result<&'a mut [u8], Fault>
         ensures { IfOk result (λ b. length b.now ≤ length out.old) }
     {
-        let (buffer, _) = read_word(rt, self.buffer(i), kept, out)?;
-        Ok(buffer)
+        let Some(text) = self.buffer(i) else {
+            return Ok(&mut out[..0]);
+        };
+        let n = read_operand(rt, text, kept, out)?;
+        Ok(&mut out[..n])
     }
 }
