@@ -2,13 +2,13 @@
 use mathlib.Core.Path.{◌≡◌, refl, ap}
 use mathlib.Core.List.{List, [], ◌∷◌}
 use Rattle.std.specs.Int.{w64, from_le_bytes}
-use Prim.Native.Nat.{ℕ, zero, suc, ◌+◌, ◌%◌, ◌≤◌}
+use Prim.Native.Nat.{ℕ, zero, suc, ◌+◌, ◌*◌, ◌%◌, ◌≤◌}
 use native.Mathlib.Nat.{mod-lt}
 use native.Mathlib.Numerals.{add-one}
 use native.Mathlib.Omega.{arith}
 use lib.ListN.{length, take, drop, get_or}
 use lib.Seq.{drop-cons}
-use Rattle.tape.specs.Tape.{rand_bytes, lowest_first}
+use Rattle.tape.specs.Tape.{rand_bytes, lowest_first, next_u64}
 
 pub length-rand_bytes : (n : ℕ) (tape : List ℕ) (at : ℕ) → length (rand_bytes n tape at) ≡ n
 unfolding rand_bytes
@@ -22,6 +22,23 @@ rand_bytes-part zero tape at h = refl
 rand_bytes-part (suc n) tape at h =
     rw (drop-cons tape at 0 (omega arith), add-one at)
     (ap (λ (l : List ℕ). get_or tape at 0 ∷ l) (rand_bytes-part n tape (suc at) (omega arith)))
+
+-- four drawn bytes, and eight by their halves
+pub four_bytes : (tape : List ℕ) (at : ℕ)
+    → lowest_first (rand_bytes 4 tape at)
+    ≡ get_or tape at 0 + 256 * get_or tape (at + 1) 0 + 65536 * get_or tape (at + 2) 0 + 16777216 * get_or tape (at + 3) 0
+unfolding lowest_first rand_bytes
+four_bytes tape at =
+    let b : at + 1 + 1 ≡ at + 2 = omega arith in
+    let c : at + 2 + 1 ≡ at + 3 = omega arith in
+    rw (b, c) (omega arith)
+
+pub two-halves : (tape : List ℕ) (at : ℕ)
+    → next_u64 tape at ≡ lowest_first (rand_bytes 4 tape at) + 4294967296 * lowest_first (rand_bytes 4 tape (at + 4))
+unfolding next_u64 lowest_first rand_bytes
+two-halves tape at =
+    let b : at + 1 + 1 + 1 + 1 ≡ at + 4 = omega arith in
+    rw b (omega arith)
 
 -- eight bytes as a number
 pub eight-bytes : (bs : List ℕ) → length bs ≡ 8 → from_le_bytes w64 bs ≡ lowest_first bs

@@ -1,15 +1,22 @@
 -- A value's bytes in each width, as the code computes them. Assumes nothing.
-use Prim.Native.Nat.{ℕ, ◌+◌, ◌*◌, ◌≤◌, ◌<◌}
-use mathlib.Core.Path.{◌≡◌, sym, ap, ◌∙◌}
-use mathlib.Core.List.{List, [], ◌∷◌}
+use Prim.Native.Nat.{ℕ, ◌+◌, ◌*◌, ◌/◌, ◌≤◌, ◌<◌}
+use mathlib.Core.Path.{◌≡◌, refl, sym, ap, ◌∙◌}
+use mathlib.Core.List.{List, [], ◌∷◌, ◌++◌}
 use native.Mathlib.Omega.{arith}
 use lib.ListN.{length, take, drop, get_or, length-drop}
 use lib.Seq.{take-add, take_all, get_or-drop, length-take-le}
 use Rattle.std.specs.Int.{from_be_bytes, w16, w32, w64}
 use Rattle.std.specs.Prelude.{Option, None, Some}
 use Rattle.std.specs.List.{slice_get}
-use Rattle.wire.specs.Numbers.{number_on, number}
-use Rattle.wire.proofs.NumberLaws.{number_on-append}
+use Rattle.wire.specs.Numbers.{digits, number_on, number}
+use Rattle.wire.proofs.NumberLaws.{above, digits-split, number_on-append}
+
+-- eight bytes are twice four
+pub digits-eight : (v : ℕ) → digits 256 8 v ≡ digits 256 4 (v / 4294967296) ++ digits 256 4 v
+unfolding above
+digits-eight v =
+    let e : v / 256 / 256 / 256 / 256 ≡ v / 4294967296 = omega arith in
+    digits-split 256 4 4 v 8 refl ∙ rw e
 
 number_on-four : (a : ℕ) (s : List ℕ) → 4 ≤ length s
     → number_on 256 a (take 4 s) ≡ a * 4294967296 + get_or s 0 0 * 16777216 + get_or s 1 0 * 65536 + get_or s 2 0 * 256 + get_or s 3 0
@@ -19,6 +26,22 @@ number_on-four a (b0 ∷ []) h = absurd (omega arith)
 number_on-four a (b0 ∷ b1 ∷ []) h = absurd (omega arith)
 number_on-four a (b0 ∷ b1 ∷ b2 ∷ []) h = absurd (omega arith)
 number_on-four a (b0 ∷ b1 ∷ b2 ∷ b3 ∷ s) h = omega arith
+
+-- four bytes from a place on
+pub number-four : (s : List ℕ) (at : ℕ) → at + 4 ≤ length s
+    → number 256 (take 4 (drop at s)) ≡ get_or s at 0 * 16777216 + get_or s (at + 1) 0 * 65536 + get_or s (at + 2) 0 * 256 + get_or s (at + 3) 0
+unfolding number
+number-four s at h =
+    let z : at + 0 ≡ at = omega arith in
+    let e = simp get_or-drop at (number_on-four 0 (drop at s) (rw length-drop (omega arith))) in
+    omega (arith, rw z at e)
+
+pub number-eight : (s : List ℕ) → 8 ≤ length s → number 256 (take 8 s) ≡ number 256 (take 4 (drop 0 s)) * 4294967296 + number 256 (take 4 (drop 4 s))
+unfolding number
+number-eight s h =
+    let long : 4 ≤ length (drop 4 s) = rw length-drop (omega arith) in
+    rw (take-add 4 4 s, number_on-append)
+    (omega (arith, number_on-four (number_on 256 0 (take 4 s)) (drop 4 s) long, number_on-four 0 (drop 4 s) long))
 
 -- ---- numbers as the library reads them, from the first bytes
 
