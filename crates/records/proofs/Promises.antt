@@ -1,7 +1,7 @@
 -- What `next_record` promises, by what its code has tested; what an answer other than a record says of the part. Assumes nothing.
 use Prim.Native.Nat.{ℕ, ◌+◌, ◌-◌, ◌≤◌, ◌<◌}
-use mathlib.Core.Path.{◌≡◌, ap}
-use mathlib.Core.List.{List}
+use mathlib.Core.Path.{◌≡◌, refl, ap}
+use mathlib.Core.List.{List, []}
 use native.Mathlib.Omega.{arith}
 use lib.ListN.{length}
 use borrow.Author.Tests.{lt-ltb, le-ltb, le-leb, lt-leb}
@@ -42,3 +42,8 @@ module _ (blob : List ℕ) (at : ℕ) where
   pub part_of : (r : Result (std.Option ℕ) Refusal) → Finds blob at r → bytes_of blob at (found_of r) ≡ record_of blob at
   unfolding record_of
   part_of r f = ap (bytes_of blob at) f.is
+
+  pub no_part : (r : Result (std.Option ℕ) Refusal) → Finds blob at r → ((after : ℕ) → r ≡ Ok (Some after) → ⊥) → [] ≡ record_of blob at
+  no_part (Ok (Some after)) f h = absurd (h after refl)
+  no_part (Ok None) f h = part_of (Ok None) f
+  no_part (Err e) f h = part_of (Err e) f

@@ -1,6 +1,6 @@
 -- What the writers take from a profile, and extensions by type and in a row. Assumes nothing.
 use Prim.Native.Nat.{ℕ, ◌+◌, ◌≤◌, ◌<◌}
-use mathlib.Core.Path.{◌≡◌}
+use mathlib.Core.Path.{◌≡◌, refl}
 use mathlib.Core.Logic.{◌≢◌}
 use mathlib.Core.Bool.{true}
 use mathlib.Core.List.{List, [], ◌∷◌}
@@ -10,6 +10,7 @@ use lib.ListN.{length, take, drop, get_or}
 use lib.Seq.{drop-cons}
 use Rattle.std.proofs.lemmas.List.{length-take}
 use Rattle.wire.specs.Front.{Put}
+use Rattle.wire.proofs.FrontLaws.{front-none}
 use Rattle.profiles.specs.Profile.{Parameter, varint, bytes, version_info, scid_source, grease, Profile}
 use Rattle.profiles.specs.Test.{parameter_ok, passes}
 use Rattle.profiles.specs.Code.{profile_of, Sound}
@@ -39,6 +40,10 @@ undrawn-puts p s = record { put = rw s.0 p; next = s.1 }
 
 pub undrawn-room : {bs : List ℕ} {n at room tape : ℕ} → length bs ≡ n → Room (undrawn bs at) room tape → n ≤ room
 undrawn-room e r = rw e at r.fits
+
+-- nothing is written
+pub put-none : (old : List ℕ) → Put [] 0 old old
+put-none old = record { count = refl; output = front-none old }
 
 -- a type that none of the writers above is for
 pub build-fixed : (p : Profile) (name scid tape : List ℕ) (t at : ℕ)

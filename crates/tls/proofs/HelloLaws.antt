@@ -2,6 +2,7 @@
 use Prim.Native.Nat.{ℕ, suc, ◌+◌, ◌-◌, ◌*◌, ◌≤◌, ◌<◌}
 use mathlib.Core.Path.{◌≡◌, refl, sym, ap, ◌∙◌}
 use mathlib.Core.List.{List, [], ◌∷◌, ◌++◌, append_assoc, map}
+use native.Mathlib.Nat.{mod-eq_of_lt}
 use native.Mathlib.Omega.{arith}
 use lib.ListN.{length, take, drop, length-append}
 use Rattle.wire.specs.Front.{front, Put}
@@ -27,6 +28,11 @@ use Rattle.tls.proofs.OrderLaws.{Ordered}
 
 -- ---- the fields before the extensions
 
+-- a number below 256 is its one digit
+one-digit : (n : ℕ) → n < 256 → digits 256 1 n ≡ n ∷ []
+unfolding digits
+one-digit n h = rw (mod-eq_of_lt h)
+
 -- version and random
 abbrev pub opening : List ℕ → List ℕ
 opening tape = digits 256 2 771 ++ rand_bytes 32 tape 0
@@ -37,9 +43,17 @@ length-opening tape = omega (arith, length-append (digits 256 2 771) (rand_bytes
 pub length-session : (n : ℕ) (tape : List ℕ) → length (vector 1 (rand_bytes n tape 32)) ≡ 1 + n
 length-session n tape = omega (arith, length-vector 1 (rand_bytes n tape 32), length-rand_bytes n tape 32)
 
+pub session-is : (n : ℕ) (tape : List ℕ) → n < 256 → (n ∷ []) ++ rand_bytes n tape 32 ≡ vector 1 (rand_bytes n tape 32)
+unfolding vector
+session-is n tape h = rw (length-rand_bytes n tape 32, one-digit n h)
+
 -- the suites with their length, and the one compression method
 abbrev pub closing : List ℕ → List ℕ
 closing suites = vector 2 (words suites) ++ vector 1 (0 ∷ [])
+
+pub closing-is : (suites : List ℕ) → digits 256 2 (2 * length suites) ++ (words suites ++ (1 ∷ 0 ∷ [])) ≡ closing suites
+unfolding vector digits
+closing-is suites = rw (length-words suites) (sym (append_assoc (digits 256 2 (2 * length suites)) (words suites) (1 ∷ 0 ∷ [])))
 
 pub length-closing : (suites : List ℕ) → length (closing suites) ≡ 4 + 2 * length suites
 length-closing suites =

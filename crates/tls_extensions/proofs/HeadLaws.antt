@@ -1,13 +1,21 @@
 -- What stands before the body of an extension, as the writers put it together. Assumes nothing.
-use Prim.Native.Nat.{ℕ, ◌+◌}
-use mathlib.Core.Path.{◌≡◌, sym}
-use mathlib.Core.List.{List, ◌++◌, append_assoc}
+use Prim.Native.Nat.{ℕ, ◌+◌, ◌<◌}
+use mathlib.Core.Path.{◌≡◌, refl, sym}
+use mathlib.Core.List.{List, [], ◌∷◌, ◌++◌, append_assoc}
+use native.Mathlib.Nat.{mod-eq_of_lt}
 use native.Mathlib.Omega.{arith}
 use lib.ListN.{length, length-append}
 use Rattle.wire.specs.Numbers.{digits}
 use Rattle.wire.specs.Vectors.{vector, extension}
+use Rattle.wire.specs.Front.{front, Put}
 use Rattle.wire.proofs.NumberLaws.{length_digits}
 use Rattle.wire.proofs.VectorLaws.{length-vector}
+use Rattle.wire.proofs.Writing.{filled}
+
+-- a length in one byte
+pub one_byte : {n : ℕ} {old new : List ℕ} → n < 256 → new ≡ front (n ∷ []) old → Put (digits 256 1 n) 1 old new
+unfolding digits
+one_byte {n} h e = rw (mod-eq_of_lt h) (filled refl e)
 
 pub length-head : (t n : ℕ) → length (digits 256 2 t ++ digits 256 2 n) ≡ 4
 length-head t n = omega (arith, length-append (digits 256 2 t) (digits 256 2 n), length_digits 256 2 t, length_digits 256 2 n)

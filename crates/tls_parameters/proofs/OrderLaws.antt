@@ -13,7 +13,7 @@ use Rattle.wire.specs.Numbers.{digits}
 use Rattle.wire.specs.Vectors.{extension}
 use Rattle.wire.proofs.FrontLaws.{piece-length}
 use Rattle.wire.proofs.Writing.{Writing, lent_from, back_from, rest-is, next-room, writes, finished, headed}
-use Rattle.profiles.specs.Profile.{Parameter}
+use Rattle.profiles.specs.Profile.{Parameter, grease}
 use Rattle.profiles.specs.Sizes.{parameter_draws}
 use Rattle.profiles.specs.Code.{parameter_of}
 use Rattle.profiles.specs.declared.TpEntry.{TpEntry}
@@ -27,6 +27,24 @@ use Rattle.tls_parameters.specs.Parameters.{Resolved, none, resolve, resolved, a
 use Rattle.tls_parameters.specs.Writing.{resolved_bytes, AllVarints, placed_at, resolve_placed, sent_of, Placeable, ParametersRoom}
 use Rattle.tls_parameters.specs.declared.Placed.{Placed}
 use Rattle.tls_parameters.proofs.LengthLaws.{after-parameters}
+
+-- ---- draws
+
+-- a parameter's draws end before those of all
+pub after-within : (ps : List Parameter) (i at : ℕ) → i < length ps
+    → after_parameters (take i ps) at + parameter_draws (get_or ps i grease) ≤ after_parameters ps at
+unfolding after_parameters
+after-within [] i at h = absurd (not-suc-le-zero h)
+after-within (p ∷ ps) zero at h = omega (arith, after-parameters ps (at + parameter_draws p))
+after-within (p ∷ ps) (suc i) at h = after-within ps i (at + parameter_draws p) (le_of_suc-le-suc h)
+
+-- each has the draws that begin after those of the parameters before it
+pub resolved-at : (ps : List Parameter) (scid tape : List ℕ) (at j : ℕ) → j < length ps
+    → get_or (resolved ps scid tape at) j none ≡ resolve (get_or ps j grease) scid tape (after_parameters (take j ps) at)
+unfolding resolved after_parameters
+resolved-at [] scid tape at j h = absurd (not-suc-le-zero h)
+resolved-at (p ∷ ps) scid tape at zero h = refl
+resolved-at (p ∷ ps) scid tape at (suc j) h = resolved-at ps scid tape (at + parameter_draws p) j (le_of_suc-le-suc h)
 
 -- ---- parameters and the places of their draws
 
@@ -75,12 +93,12 @@ after-next (p ∷ ps) zero at d h = refl
 after-next (p ∷ ps) (suc i) at d h = after-next ps i (at + parameter_draws (parameter_of p)) d (le_of_suc-le-suc h)
 
 -- the draws of the first parameters end before those of all
-after-within : (ps : List TpEntry) (i at : ℕ) → after_parameters (listed (take i ps)) at ≤ after_parameters (listed ps) at
+first-within : (ps : List TpEntry) (i at : ℕ) → after_parameters (listed (take i ps)) at ≤ after_parameters (listed ps) at
 unfolding after_parameters
-after-within [] zero at = omega arith
-after-within [] (suc i) at = omega arith
-after-within (p ∷ ps) zero at = omega (arith, after-parameters (listed ps) (at + parameter_draws (parameter_of p)))
-after-within (p ∷ ps) (suc i) at = after-within ps i (at + parameter_draws (parameter_of p))
+first-within [] zero at = omega arith
+first-within [] (suc i) at = omega arith
+first-within (p ∷ ps) zero at = omega (arith, after-parameters (listed ps) (at + parameter_draws (parameter_of p)))
+first-within (p ∷ ps) (suc i) at = first-within ps i (at + parameter_draws (parameter_of p))
 
 take-set : {A : Type 0} (l : List A) (i : ℕ) (v : A) → i < length l → take (suc i) (set l i v) ≡ take i l ++ (v ∷ [])
 take-set [] i v h = absurd (not-suc-le-zero h)
@@ -108,7 +126,7 @@ module _ {ps : List TpEntry} {at : ℕ} {placed : List Placed} {next i : ℕ} (n
 
   -- so the next sum does not overflow
   pub next-within : {k : ℕ} → k ≡ parameter_draws (parameter_of (get_or ps i d)) → next + k ≤ after_parameters (listed ps) at
-  next-within e = omega (arith, e, n.after, after-next ps i at d h, after-within ps (suc i) at)
+  next-within e = omega (arith, e, n.after, after-next ps i at d h, first-within ps (suc i) at)
 
 -- ---- shuffled
 
