@@ -229,12 +229,12 @@ module _ (c : ℕ) (hello old : List ℕ) where
   unfolding after_cut
   refuses k e = record { is = sym e; tells = ap (told 0) (sym e); output = rw e; bounds = tt }
 
-  refuses-small : c < 1 → Cuts c hello old (Err no.FrameSize) old
+  pub refuses-small : c < 1 → Cuts c hello old (Err no.FrameSize) old
   unfolding cut_of
   refuses-small h = refuses no.FrameSize (rw (lt-leb 1 c h))
 
   module _ (k : 1 ≤ c) where
-    refuses-large : limit < c → Cuts c hello old (Err no.FrameSize) old
+    pub refuses-large : limit < c → Cuts c hello old (Err no.FrameSize) old
     unfolding cut_of
     refuses-large h = refuses no.FrameSize (rw (le-leb 1 c k, lt-leb c limit h))
 

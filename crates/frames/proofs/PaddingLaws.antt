@@ -44,6 +44,12 @@ padding-more at n bs p h z = record { within = h; zero = λ i l. ⊎_elim (p.zer
         eqb-true (get_or block (i - at) 0) 0 (each_at (zero_at block) 0 (length block) (i - at) z (omega arith) (omega (arith, long))) in
         rw j at (sym (get_or-take n (drop at bs) (i - at) 0 (omega (arith, long)) ∙ get_or-drop at bs (i - at) 0) ∙ zero-there)
 
+pub padding-one : (at : ℕ) (bs : List ℕ) → Padding at bs → at < length bs → get_or bs at 0 ≡ 0 → Padding (at + 1) bs
+padding-one at bs p h z = record { within = omega arith; zero = λ i l. ⊎_elim (p.zero i) (λ k. last i k l) (lt-or-le i at) }
+  where
+    last : (i : ℕ) → at ≤ i → i < at + 1 → get_or bs i 0 ≡ 0
+    last i k l = let e : i ≡ at = omega arith in rw e z
+
 -- the next block of those that are left
 pub next-block : (at : ℕ) (bs rest later block : List ℕ) → Padding at bs → rest ≡ drop at bs → rest ≡ block ++ later → length block ≡ 16
     → zeros block ≡ true → Padding (at + 16) bs × (later ≡ drop (at + 16) bs)

@@ -7,7 +7,7 @@ use native.Mathlib.Omega.{arith}
 use lib.ListN.{length, drop, length-drop}
 use lib.Seq.{drop-drop}
 use Rattle.wire.specs.Answer.{result, refused, and_then}
-use Rattle.wire.proofs.AnswerLaws.{apart}
+use Rattle.wire.proofs.AnswerLaws.{apart, and_then-agree}
 use Rattle.wire.specs.Stops.{stopped}
 use Rattle.frames.specs.Frame.{Piece}
 use Rattle.frames.specs.Read.{read_frame, extent}
@@ -39,6 +39,22 @@ pub place-unread : (n : ℕ) (bs : List ℕ) (placed : List Piece) (k : ℕ) →
 unfolding place_all
 place-unread n [] placed k h e = absurd (omega arith)
 place-unread n (b ∷ bs) placed k h e = rw e
+
+-- ---- fuel beyond the bytes changes nothing
+
+pub place-fuel : (n m : ℕ) (bs : List ℕ) (placed : List Piece) → length bs ≤ n → length bs ≤ m → place_all n bs placed ≡ place_all m bs placed
+unfolding place_all
+place-fuel zero m bs placed h k = sym (place_none m bs placed h)
+place-fuel (suc n) zero bs placed h k = place_none (suc n) bs placed k
+place-fuel (suc n) (suc m) [] placed h k = refl
+place-fuel (suc n) (suc m) (b ∷ bs) placed h k =
+    and_then-agree (read_frame (b ∷ bs)) _ _
+    (λ s e.
+    and_then-agree (place_frame (b ∷ bs) s placed) _ _
+    (λ more l.
+    let rest = drop (extent s) (b ∷ bs) in
+    let short : length rest ≤ length bs = omega (arith, length-drop (extent s) (b ∷ bs), extent-bounds (b ∷ bs) s e) in
+    place-fuel n m rest more (omega (arith, short)) (omega (arith, short))))
 
 -- ---- a loop over the frames
 

@@ -13,7 +13,7 @@ use Rattle.frames.specs.Frame.{Piece, end}
 use Rattle.frames.specs.Read.{read_frame, extent, piece_in, FrameFound}
 use Rattle.frames.specs.Stream.{held, end_of, values, agrees}
 use Rattle.frames.specs.Join.{limit, place, place_frame}
-use Rattle.frames.specs.Buffers.{mark, Carries, agreeing, place_on, Placing, unlaid, Stepping}
+use Rattle.frames.specs.Buffers.{mark, Carries, agreeing, place_on, Placing, unread, unlaid, Stepping}
 use Rattle.frames.specs.declared.reading.CryptoFrame.{CryptoFrame}
 use Rattle.frames.specs.declared.reading.Frame.{Frame}
 use Rattle.frames.specs.declared.reading.Frame.TheVariants as frame
@@ -99,6 +99,9 @@ module _ {bs out marks : List ℕ} {e : ℕ} (he : e ≤ limit) where
 
   pub step-ping : FrameFound bs (Ok frame.Ping) → Stepping bs out marks e (Ok (record { used = 1; end = e })) out marks
   step-ping f = step_past frame.Ping f.is refl (λ placed. refl)
+
+  pub step-unread : {k : Refusal} → FrameFound bs (Err k) → Stepping bs out marks e (Err k) out marks
+  step-unread f = record { is = λ placed c. unread (sym f.is); bounds = tt }
 
   module _
       {c : CryptoFrame} {out' marks' : List ℕ} (f : FrameFound bs (Ok (frame.Crypto c))) (ho : limit ≤ length out) (hm : limit ≤ length marks)
