@@ -62,7 +62,7 @@ slot_small parameters = omega arith
 slot_small other = omega arith
 
 -- the kind whose place it is
-abbrev kind_at : ℕ → Kind
+abbrev pub kind_at : ℕ → Kind
 kind_at n =
     cond (eqb n 0) name
     (cond (eqb n 1) groups
@@ -73,7 +73,7 @@ kind_at n =
     (cond (eqb n 6) parameters
     other))))))
 
-kind-at-slot : (k : Kind) → kind_at (slot k) ≡ k
+pub kind-at-slot : (k : Kind) → kind_at (slot k) ≡ k
 kind-at-slot name = refl
 kind-at-slot groups = refl
 kind-at-slot algorithms = refl
@@ -82,6 +82,9 @@ kind-at-slot versions = refl
 kind-at-slot shares = refl
 kind-at-slot parameters = refl
 kind-at-slot other = refl
+
+pub kind-at-other : (n : ℕ) → (n ≡ 0 → ⊥) → (n ≡ 1 → ⊥) → (n ≡ 2 → ⊥) → (n ≡ 3 → ⊥) → (n ≡ 4 → ⊥) → (n ≡ 5 → ⊥) → (n ≡ 6 → ⊥) → kind_at n ≡ other
+kind-at-other n a b c d e f g = rw (ne_eqb n 0 a, ne_eqb n 1 b, ne_eqb n 2 c, ne_eqb n 3 d, ne_eqb n 4 e, ne_eqb n 5 f, ne_eqb n 6 g)
 
 pub slot_same : (k l : Kind) → slot k ≡ slot l → k ≡ l
 slot_same k l e = sym (kind-at-slot k) ∙ ap kind_at e ∙ kind-at-slot l

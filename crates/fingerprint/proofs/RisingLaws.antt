@@ -2,7 +2,7 @@
 use Prim.Native.Nat.{ℕ, zero, suc, ◌+◌, ◌≤◌, ◌<◌, zero-le}
 use mathlib.Core.Path.{◌≡◌, refl, sym, ap}
 use mathlib.Core.Bool.{Bool, true, false, cond}
-use mathlib.Core.List.{List, [], ◌∷◌}
+use mathlib.Core.List.{List, [], ◌∷◌, ◌++◌}
 use native.Mathlib.Nat.{not-suc-le-zero, le_refl}
 use native.Mathlib.Omega.{arith}
 use lib.ListN.{length, get_or}
@@ -48,6 +48,16 @@ rising-permutes l f = omega (arith, insert_all-total f [] l)
 
 pub length-rising : (l : List ℕ) → length (rising l) ≡ length l
 length-rising l = sym (length-permutes l (rising l) (rising-permutes l))
+
+-- the next number is put among those before it
+insert_all-snoc : (done l : List ℕ) (t : ℕ) → insert_all done (l ++ (t ∷ [])) ≡ insert t (insert_all done l)
+unfolding insert_all
+insert_all-snoc done [] t = refl
+insert_all-snoc done (x ∷ l) t = insert_all-snoc (insert x done) l t
+
+pub rising_snoc : (l : List ℕ) (t : ℕ) → rising (l ++ (t ∷ [])) ≡ insert t (rising l)
+unfolding rising
+rising_snoc l t = insert_all-snoc [] l t
 
 -- ---- In order
 

@@ -113,6 +113,20 @@ module _ (t : ℕ) where
       go true false e = absurd (let z : ◌≡◌ {A = ℕ} 23 0 = e in omega (arith, z))
       go false b e = absurd (let z : ◌≡◌ {A = ℕ} 22 0 = e in omega (arith, z))
 
+-- a refusal's number is one of document 01
+pub asked-small : (k : Kind) (bs : List ℕ) → asked k bs ≤ 27
+unfolding asked
+asked-small k bs = go (body_of k bs)
+  where
+    numbers : (a b : Bool) → cond a (cond b 0 23) 22 ≤ 27
+    numbers true true = omega arith
+    numbers true false = omega arith
+    numbers false b = omega arith
+
+    go : (x : Option Body) → asked_of x ≤ 27
+    go none = omega arith
+    go (some body) = numbers (ids_new body) (within_counts body)
+
 -- a refusal has a number
 pub question-some : (e : Refusal) → question e ≡ 0 → ⊥
 question-some e z = grind (arith, z)

@@ -122,14 +122,59 @@ module _ {A B : Type 0} (f : A → B) (one : List ℕ → Option (Entry A)) wher
   unfolding all_entries
   all_shown bs = entries_shown (length bs) bs
 
+-- what the count says of the list
+pub plus_none : {A : Type 0} (x : Option (List A)) → plus 0 x ≡ none → x ≡ none
+unfolding plus
+plus_none none e = refl
+plus_none (some l) e = absurd (let z : ◌≡◌ {A = ℕ} 0 1 = cc in omega arith)
+
 -- a list that was found, of so many entries
 pub record Counts {A : Type 0} (x : Option (List A)) (k : ℕ) : Type 0 where
   pub there : x ≡ some (or_empty x)
   pub long : length (or_empty x) ≡ k
+
+pub plus-some : {A : Type 0} (x : Option (List A)) (k : ℕ) → plus 0 x ≡ some k → Counts x k
+unfolding plus or_empty
+plus-some none k e = absurd (let z : ◌≡◌ {A = ℕ} 0 1 = cc in omega arith)
+plus-some (some l) k e = record { there = refl; long = let q : 0 + length l ≡ k = cc in omega (arith, q) }
 
 -- ---- a list that is there
 
 abbrev pub There : {A : Type 0} → Option (List A) → Type 0
 There x = x ≡ some (or_empty x)
 
+pub there-first : {A : Type 0} (v : A) (x : Option (List A)) → There (first v x) → There x
+unfolding first or_empty
+there-first v none h = absurd (let z : ◌≡◌ {A = ℕ} 0 1 = cc in omega arith)
+there-first v (some l) h = refl
+
+pub or-first : {A : Type 0} (v : A) (x : Option (List A)) → There (first v x) → or_empty (first v x) ≡ v ∷ or_empty x
+unfolding first or_empty
+or-first v none h = absurd (let z : ◌≡◌ {A = ℕ} 0 1 = cc in omega arith)
+or-first v (some l) h = refl
+
+pub there-not : {A : Type 0} (x : Option (List A)) → There x → x ≡ none → ⊥
+there-not none h e = let z : ◌≡◌ {A = ℕ} 0 1 = cc in omega arith
+there-not (some l) h e = let z : ◌≡◌ {A = ℕ} 0 1 = cc in omega arith
+
 -- ---- fuel beyond the bytes changes nothing, where an entry takes a byte or more
+
+abbrev pub Shrinks : {A : Type 0} → (List ℕ → Option (Entry A)) → Type 0
+Shrinks {A} one = (b : ℕ) (r : List ℕ) (e : Entry A) → one (b ∷ r) ≡ some e → length e.rest ≤ length r
+
+bind-agree : {A : Type 0} (x : Option (Entry A)) (k m : Entry A → Option (List A)) → ((e : Entry A) → x ≡ some e → k e ≡ m e) → bind x k ≡ bind x m
+unfolding bind
+bind-agree none k m h = refl
+bind-agree (some e) k m h = h e refl
+
+pub entries-fuel : {A : Type 0} (one : List ℕ → Option (Entry A)) → Shrinks one → (f g : ℕ) (r : List ℕ) → length r ≤ f → length r ≤ g → entries one f r ≡ entries one g r
+unfolding entries
+entries-fuel one sh zero zero r hf hg = refl
+entries-fuel one sh zero (suc g) [] hf hg = refl
+entries-fuel one sh zero (suc g) (b ∷ r) hf hg = absurd (omega arith)
+entries-fuel one sh (suc f) zero [] hf hg = refl
+entries-fuel one sh (suc f) zero (b ∷ r) hf hg = absurd (omega arith)
+entries-fuel one sh (suc f) (suc g) [] hf hg = refl
+entries-fuel {A} one sh (suc f) (suc g) (b ∷ r) hf hg =
+    bind-agree (one (b ∷ r)) (λ e. first e.value (entries one f e.rest)) (λ e. first e.value (entries one g e.rest))
+    (λ e q. ap (λ x. first e.value x) (entries-fuel one sh f g e.rest (omega (arith, sh b r e q)) (omega (arith, sh b r e q))))

@@ -16,7 +16,7 @@ use Rattle.fingerprint_bodies.specs.Entries.{Entry, bind, whole, at_least, mappe
 use Rattle.fingerprint_bodies.specs.Forms.{words_in, even_words, word_list, one_entry}
 use Rattle.fingerprint_bodies.specs.Code.{within, count_asked, is_whole}
 use Rattle.fingerprint_bodies.proofs.PieceLaws.{number-there, number_cut, whole_is, whole-not}
-use Rattle.fingerprint_bodies.proofs.EntryLaws.{plus, all_shown}
+use Rattle.fingerprint_bodies.proofs.EntryLaws.{plus, plus_none, plus-some, all_shown}
 use Rattle.varint.proofs.ByteLaws.{number-one}
 
 -- n is the count that stands in front
@@ -135,6 +135,13 @@ module _ {A : Type 0} (m : ℕ) (x : Option (List A)) where
   pub within_none : x ≡ none → within m x ≡ 21
   unfolding within
   within_none e = rw e
+
+  pub within-cut : plus 0 x ≡ none → within m x ≡ 21
+  within-cut e = within_none (plus_none x e)
+
+  pub within_count : (k : ℕ) → plus 0 x ≡ some k → within m x ≡ cond (leb k m) 0 23
+  unfolding within
+  within_count k e = let c = plus-some x k e in rw (c.there, c.long)
 
 -- what is asked of so many entries
 abbrev pub counted : ℕ → ℕ → Option ℕ → ℕ
