@@ -4,11 +4,19 @@ use Rattle.std.proofs.Common.{◌≡◌, ℕ, ◌+◌, ◌-◌, ◌*◌, ◌^◌
 use Rattle.wire.specs.Numbers.{number_on, number}
 use Rattle.script.specs.Scan.{all}
 use Rattle.script.specs.Decimal.{is_decimal, decimal_value, number_of}
-use Rattle.script.proofs.ScanLaws.{among_in, and-true, and-not-left, and-not-right}
+use Rattle.script.proofs.ScanLaws.{among_in, among_below, among-above, and-true, and-not-left, and-not-right}
 
 pub decimal-is : (b : ℕ) → 48 ≤ b → b ≤ 57 → is_decimal b ≡ true
 unfolding is_decimal
 decimal-is b h k = among_in 48 57 b h k
+
+pub decimal-low : (b : ℕ) → b < 48 → is_decimal b ≡ false
+unfolding is_decimal
+decimal-low b h = among_below 48 57 b h
+
+pub decimal-high : (b : ℕ) → 57 < b → is_decimal b ≡ false
+unfolding is_decimal
+decimal-high b h = among-above 48 57 b h
 
 -- ---- the answers of reading
 

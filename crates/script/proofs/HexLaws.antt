@@ -1,23 +1,51 @@
 -- Hex: each case of a digit, and the bytes of pairs. Assumes nothing.
 use lib.ListN.{get_or-append}
-use Rattle.std.proofs.Common.{◌≡◌, ℕ, zero, suc, ◌+◌, ◌-◌, ◌*◌, ◌/◌, ◌<◌, ◌≤◌, true, List, [], ◌∷◌, ◌++◌, length, get_or, drop, sym, refl, ap, ap₂, ◌∙◌, arith, length-drop, length-append, get_or-drop, drop_at, drop-drop, lt-ltb}
+use Rattle.std.proofs.Common.{◌≡◌, ℕ, zero, suc, ◌+◌, ◌-◌, ◌*◌, ◌/◌, ◌<◌, ◌≤◌, true, false, List, [], ◌∷◌, ◌++◌, length, get_or, drop, sym, refl, ap, ap₂, ◌∙◌, arith, length-drop, length-append, get_or-drop, drop_at, drop-drop, ltb-true, le-ltb, lt-ltb}
 use Rattle.script.specs.Hex.{hex_digit, is_hex, hex_byte, pairs}
-use Rattle.script.proofs.ScanLaws.{among_in, among-above}
+use Rattle.script.proofs.ScanLaws.{among_in, among_below, among-above}
 
 -- ---- a digit, by the range that its byte lies in
 
 module _ (b : ℕ) where
+  pub digit_low : b < 48 → 16 ≡ hex_digit b
+  unfolding hex_digit
+  digit_low h = rw (among_below 48 57 b h, among_below 65 70 b (omega arith), among_below 97 102 b (omega arith))
+
   pub digit-decimal : 48 ≤ b → b ≤ 57 → b - 48 ≡ hex_digit b
   unfolding hex_digit
   digit-decimal h k = rw (among_in 48 57 b h k)
+
+  pub digit-between : 57 < b → b < 65 → 16 ≡ hex_digit b
+  unfolding hex_digit
+  digit-between h k = rw (among-above 48 57 b h, among_below 65 70 b k, among_below 97 102 b (omega arith))
+
+  pub digit-upper : 65 ≤ b → b ≤ 70 → b - 55 ≡ hex_digit b
+  unfolding hex_digit
+  digit-upper h k = rw (among-above 48 57 b (omega arith), among_in 65 70 b h k)
+
+  pub digit-between-2 : 70 < b → b < 97 → 16 ≡ hex_digit b
+  unfolding hex_digit
+  digit-between-2 h k = rw (among-above 48 57 b (omega arith), among-above 65 70 b h, among_below 97 102 b k)
 
   pub digit-lower : 97 ≤ b → b ≤ 102 → b - 87 ≡ hex_digit b
   unfolding hex_digit
   digit-lower h k = rw (among-above 48 57 b (omega arith), among-above 65 70 b (omega arith), among_in 97 102 b h k)
 
+  pub digit-high : 102 < b → 16 ≡ hex_digit b
+  unfolding hex_digit
+  digit-high h = rw (among-above 48 57 b (omega arith), among-above 65 70 b (omega arith), among-above 97 102 b h)
+
+  pub hex-below : is_hex b ≡ true → hex_digit b < 16
+  unfolding is_hex
+  hex-below e = ltb-true (hex_digit b) 16 e
+
   pub hex-is : hex_digit b < 16 → is_hex b ≡ true
   unfolding is_hex
   hex-is h = lt-ltb (hex_digit b) 16 h
+
+  pub hex-not : 16 ≤ hex_digit b → is_hex b ≡ false
+  unfolding is_hex
+  hex-not h = le-ltb (hex_digit b) 16 h
 
 -- ---- pairs of digits
 

@@ -3,7 +3,7 @@ use Rattle.std.proofs.Common.{◌≡◌, ℕ, ◌+◌, ◌-◌, ◌<◌, ◌≤�
 use Rattle.wire.proofs.ListLaws.{lt-or-le, length_part}
 use Rattle.script.specs.Scan.{distance, find_of}
 use Rattle.script.proofs.ScanLaws.{find-most}
-use Rattle.script.specs.Input.{line_feed, start_of, filled_of, pending, part_of, passed_of, Held, Appended, Taken}
+use Rattle.script.specs.Input.{line_feed, start_of, filled_of, next_line_of, pending, part_of, passed_of, Held, Appended, Taken}
 use Rattle.script.specs.declared.input.Input.{Input}
 
 -- what has been passed lies in the chunk
@@ -49,6 +49,9 @@ module _ (chunk line : List ℕ) (s : Input) (h : Held (length chunk) (length li
 
 pub start-held : (chunk line : ℕ) → Held chunk line start_of
 start-held chunk line = record { order = zero-le; read = zero-le; taken = zero-le }
+
+pub next-held : (chunk line : ℕ) (s : Input) → Held chunk line s → Held chunk line (next_line_of s)
+next-held chunk line s h = record { order = h.order; read = h.read; taken = zero-le }
 
 pub filled-held : (chunk n : ℕ) (s r : Input) → r ≡ filled_of s n → n ≤ chunk → (r.start ≤ r.end) × (r.end ≤ chunk) × (r.length ≡ s.length)
 filled-held chunk n s r e h =

@@ -1,9 +1,9 @@
 -- Pieces: where they end, what each kind stands for, and the answers. Assumes nothing.
 use Rattle.std.specs.Prelude.{Some, None, Result, Ok, Err}
-use Rattle.std.proofs.Common.{◌≡◌, ℕ, suc, ◌+◌, ◌-◌, ◌%◌, ◌<◌, ◌≤◌, min, true, false, cond, ◌&&◌, eqb, ltb, List, [], length, get_or, take, drop, replicate, refl, ap, subst, zero-le, le_refl, add-one, arith, length-drop, drop_of_length-le, drop-cons, le-ltb, lt-ltb, eq-eqb, ne_eqb, le-leb}
+use Rattle.std.proofs.Common.{◌≡◌, ℕ, suc, ◌+◌, ◌-◌, ◌%◌, ◌<◌, ◌≤◌, min, true, false, cond, ◌&&◌, eqb, ltb, List, [], ◌∷◌, length, get_or, take, drop, replicate, refl, ap, subst, zero-le, le_refl, add-one, arith, length-drop, drop_of_length-le, drop-cons, le-ltb, lt-ltb, eq-eqb, ne_eqb, le-leb}
 use borrow.Author.Tests.{lt-leb}
 use Rattle.wire.specs.Front.{front}
-use Rattle.script.specs.Scan.{all, is_only, distance, quote, star, plus, dash, at, underscore, find_of, Found}
+use Rattle.script.specs.Scan.{all, is_only, begins, distance, quote, star, plus, dash, at, underscore, find_of, Found}
 use Rattle.script.specs.Decimal.{number_of}
 use Rattle.script.specs.Hex.{is_hex, hex_byte, pairs}
 use Rattle.script.specs.Piece.{piece_length, piece_end, Meaning, bytes, file, malformed, is_plain, inner, text_of, hex_of, times_of, run_of, piece_of, answer_of, output_of, Read}
@@ -11,7 +11,7 @@ use Rattle.script.specs.declared.reading.NoPiece.{NoPiece}
 use Rattle.script.specs.declared.reading.NoPiece.TheVariants as no
 use Rattle.script.specs.declared.reading.Piece.{Piece}
 use Rattle.script.specs.declared.reading.Piece.TheVariants as piece
-use Rattle.script.proofs.ScanLaws.{and-not-right, distance-le, only_first, only-other, begins_first, begins-not}
+use Rattle.script.proofs.ScanLaws.{and-not-right, among_in, among_below, among-above, distance-le, only_first, only-other, begins_first, begins-not}
 
 -- ---- where a piece ends
 
@@ -67,6 +67,22 @@ unfolding answer_of output_of
 read-file m old e = read_as file m (Ok piece.File) old old e (record { result = refl; output = refl; within = zero-le })
 
 -- ---- text
+
+pub plain-low : (b : ℕ) → b < 33 → is_plain b ≡ false
+unfolding is_plain
+plain-low b h = rw (among_below 33 126 b h)
+
+pub plain-high : (b : ℕ) → 126 < b → is_plain b ≡ false
+unfolding is_plain
+plain-high b h = rw (among-above 33 126 b h)
+
+pub plain-quote : (b : ℕ) → b ≡ quote → is_plain b ≡ false
+unfolding is_plain
+plain-quote b e = rw e
+
+pub plain-is : (b : ℕ) → 33 ≤ b → b ≤ 126 → (b ≡ quote → ⊥) → is_plain b ≡ true
+unfolding is_plain
+plain-is b h k e = rw (among_in 33 126 b h k, ne_eqb b quote e)
 
 module _ (s : List ℕ) where
   pub text-short : length s < 2 → malformed ≡ text_of s
@@ -132,6 +148,11 @@ unfolding run_of
 run-other s k e = rw (← e)
 
 -- ---- the table of pieces
+
+pub piece-none : (s last : List ℕ) → length s ≡ 0 → malformed ≡ piece_of s last
+unfolding piece_of is_only begins distance hex_of
+piece-none [] last h = refl
+piece-none (b ∷ s) last h = absurd (omega arith)
 
 module _ (s last : List ℕ) where
   pub piece-dash : length s ≡ 1 → get_or s 0 0 ≡ dash → bytes [] ≡ piece_of s last

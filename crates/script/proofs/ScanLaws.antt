@@ -6,7 +6,7 @@ use Rattle.std.specs.Option.{unwrap_or}
 use Rattle.wire.proofs.ListLaws.{lt-or-le}
 use borrow.Author.Tests.{lt-leb}
 use Rattle.wire.proofs.SumLaws.{and_left, and_right}
-use Rattle.script.specs.Scan.{among, all, is_only, begins, distance, find_of, found_of}
+use Rattle.script.specs.Scan.{among, all, is_only, begins, distance, find_of, found_of, Found}
 
 pub and-true : (a b : Bool) → a ≡ true → b ≡ true → a && b ≡ true
 and-true a b p q = rw (p, q)
@@ -22,6 +22,9 @@ and-not-right false b p = refl
 
 pub among_in : (low high b : ℕ) → low ≤ b → b ≤ high → among low high b ≡ true
 among_in low high b h k = and-true (leb low b) (leb b high) (le-leb low b h) (le-leb b high k)
+
+pub among_below : (low high b : ℕ) → b < low → among low high b ≡ false
+among_below low high b h = and-not-left (leb low b) (leb b high) (lt-leb low b h)
 
 pub among-above : (low high b : ℕ) → high < b → among low high b ≡ false
 among-above low high b h = and-not-right (leb low b) (leb b high) (lt-leb b high h)
@@ -45,6 +48,19 @@ all-at q (x ∷ s) (suc i) h e = all-at q s i (le_of_suc-le-suc h) (and_right (q
 
 -- ---- a search, from a place on
 
+module _ (b : ℕ) (s : List ℕ) (i : ℕ) where
+  pub distance-here : i < length s → get_or s i 0 ≡ b → distance b (drop i s) ≡ 0
+  unfolding distance
+  distance-here h e = rw (drop-cons s i 0 h, eq-eqb (get_or s i 0) b e)
+
+  pub distance_next : i < length s → (get_or s i 0 ≡ b → ⊥) → distance b (drop i s) ≡ suc (distance b (drop (i + 1) s))
+  unfolding distance
+  distance_next h e = rw (add-one, drop-cons s i 0 h, ne_eqb (get_or s i 0) b e)
+
+  pub distance-end : length s ≤ i → distance b (drop i s) ≡ 0
+  unfolding distance
+  distance-end h = rw (drop_of_length-le s h)
+
 pub distance-le : (b : ℕ) (s : List ℕ) → distance b s ≤ length s
 unfolding distance
 distance-le b [] = omega arith
@@ -53,6 +69,12 @@ distance-le b (x ∷ s) = go (eqb x b) (distance-le b s)
     go : (t : Bool) → distance b s ≤ length s → cond t 0 (suc (distance b s)) ≤ suc (length s)
     go true h = omega arith
     go false h = omega arith
+
+-- what holds of a place that a search gives
+pub found : (s : List ℕ) (from b r : ℕ) → r ≡ from + distance b (drop from s) → Found (find_of s from b) s from r
+unfolding find_of
+found s from b r e =
+    record { is = e; least = omega arith; most = omega (arith, distance-le b (drop from s), length-drop from s) }
 
 -- where a search finds its byte, and where there is none
 module _ (s : List ℕ) (from b : ℕ) where
@@ -100,6 +122,12 @@ module _ (s : List ℕ) (from b : ℕ) where
 
 -- ---- one byte, and a first byte
 
+pub only_one : (b : ℕ) (s : List ℕ) → length s ≡ 1 → is_only b s ≡ eqb (get_or s 0 0) b
+unfolding is_only
+only_one b [] h = absurd (omega arith)
+only_one b (x ∷ []) h = refl
+only_one b (x ∷ y ∷ s) h = absurd (omega arith)
+
 pub only_first : (b : ℕ) (s : List ℕ) → length s ≡ 1 → get_or s 0 0 ≡ b → is_only b s ≡ true
 unfolding is_only
 only_first b [] h e = absurd (omega arith)
@@ -114,6 +142,11 @@ only-other b (x ∷ y ∷ s) h = refl
 
 pub only-not : (b : ℕ) (s : List ℕ) → (length s ≡ 1 → ⊥) → is_only b s ≡ false
 only-not b s h = only-other b s (λ e p. h e)
+
+pub begins-first : (b : ℕ) (s : List ℕ) → 0 < length s → begins b s ≡ eqb (get_or s 0 0) b
+unfolding begins
+begins-first b [] h = absurd (not-suc-le-zero h)
+begins-first b (x ∷ s) h = refl
 
 pub begins_first : (b : ℕ) (s : List ℕ) → 0 < length s → get_or s 0 0 ≡ b → begins b s ≡ true
 unfolding begins

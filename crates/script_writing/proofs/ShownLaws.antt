@@ -4,8 +4,9 @@ use mathlib.Core.Path.{◌≡◌, refl, sym, ap, ◌∙◌, subst}
 use mathlib.Core.Logic.{⊎_elim}
 use mathlib.Core.List.{List, [], ◌∷◌, ◌++◌, reverse, reverse-cons, append_assoc}
 use native.Mathlib.Nat.{not-suc-le-zero}
+use native.Mathlib.Numerals.{add-one}
 use native.Mathlib.Omega.{arith}
-use lib.ListN.{length, take, drop, get_or, set, length-append, length-set, length-reverse, get_or-append}
+use lib.ListN.{length, take, drop, get_or, set, length-append, length-set, length-reverse, get_or-append, drop_of_length-le}
 use lib.Seq.{drop-cons, get_or_at, set_at}
 use lib.Dec.{eqb}
 use Rattle.std.specs.List.{take_while}
@@ -51,6 +52,19 @@ written_as t u r old new e w = subst (λ (x : List ℕ). Written x r old new) e 
 
 -- ---- equal bytes at the end
 
+module _ (b : ℕ) (s : List ℕ) (k : ℕ) where
+  pub equal-more : k < length s → get_or s k 0 ≡ b → equal_front b (drop k s) ≡ suc (equal_front b (drop (k + 1) s))
+  unfolding equal_front
+  equal-more h e = rw (add-one, drop-cons s k 0 h, eq-eqb (get_or s k 0) b e)
+
+  pub equal-stop : k < length s → (get_or s k 0 ≡ b → ⊥) → equal_front b (drop k s) ≡ 0
+  unfolding equal_front
+  equal-stop h e = rw (drop-cons s k 0 h, ne_eqb (get_or s k 0) b e)
+
+  pub equal-end : length s ≤ k → equal_front b (drop k s) ≡ 0
+  unfolding equal_front
+  equal-end h = rw (drop_of_length-le s h)
+
 pub reverse-at : (s : List ℕ) (k : ℕ) → k < length s → get_or (reverse s) k 0 ≡ get_or s (length s - 1 - k) 0
 reverse-at [] k h = absurd (not-suc-le-zero h)
 reverse-at (x ∷ s) k h =
@@ -71,6 +85,21 @@ pub run_none : (s : List ℕ) → length s ≡ 0 → 0 ≡ trailing_run s
 unfolding trailing_run equal_front
 run_none [] h = refl
 run_none (b ∷ s) h = absurd (omega arith)
+
+pub run-start : (s : List ℕ) (b : ℕ) → b ≡ get_or s (length s - 1) 0 → 0 + equal_front b (reverse s) ≡ trailing_run s
+unfolding trailing_run
+run-start s b e = rw e (omega arith)
+
+-- from the end on, k bytes equal the last; the next one does, it does not, or there is none
+module _ (s : List ℕ) (b k : ℕ) where
+  pub run_more : k < length s → get_or s (length s - 1 - k) 0 ≡ b → equal_front b (drop k (reverse s)) ≡ suc (equal_front b (drop (k + 1) (reverse s)))
+  run_more h e = equal-more b (reverse s) k (omega (arith, length-reverse s)) (reverse-at s k h ∙ e)
+
+  pub run-stop : k < length s → (get_or s (length s - 1 - k) 0 ≡ b → ⊥) → equal_front b (drop k (reverse s)) ≡ 0
+  run-stop h e = equal-stop b (reverse s) k (omega (arith, length-reverse s)) (λ q. e (sym (reverse-at s k h) ∙ q))
+
+  pub run_end : length s ≤ k → equal_front b (drop k (reverse s)) ≡ 0
+  run_end h = equal-end b (reverse s) k (omega (arith, length-reverse s))
 
 -- the elements at the front that equal b, counted by the library
 pub equal_count : (b : ℕ) (s : List ℕ) → length (take_while (λ x. eqb x b) s) ≡ equal_front b s

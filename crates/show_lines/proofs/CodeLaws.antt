@@ -1,14 +1,16 @@
 -- What the code has read and tested, as the definitions have it. Assumes nothing.
-use Prim.Native.Nat.{ℕ, ◌+◌, ◌-◌, ◌≤◌, ◌<◌, min}
+use Prim.Native.Nat.{ℕ, ◌+◌, ◌-◌, ◌*◌, ◌≤◌, ◌<◌, min}
 use mathlib.Core.Path.{◌≡◌, refl, sym, ap, ◌∙◌, subst}
 use mathlib.Core.Bool.{Bool, true, false, cond, true≢false}
 use mathlib.Core.List.{List, [], ◌∷◌}
 use native.Mathlib.Omega.{arith}
 use borrow.Author.Tests.{eqb-true, eqb-false, eq-eqb, ne_eqb, lt-ltb, le-ltb, le-leb, lt-leb}
 use lib.ListN.{length, take, drop, get_or, length-drop}
+use lib.Seq.{take_all}
 use Rattle.wire.specs.Numbers.{Bytes, number, number_on}
 use Rattle.wire.proofs.ListLaws.{part_to_end, length-part-to-end, length_part}
 use Rattle.varint.specs.Varint.{Found}
+use Rattle.varint.proofs.ByteLaws.{number-one}
 use Rattle.varint.specs.declared.Varint.{Varint}
 use Rattle.std.specs.Prelude.{Ok, Err, Some, None}
 use Rattle.std.specs.Prelude as std
@@ -34,6 +36,27 @@ use Rattle.show_lines.specs.declared.cursor.Line.{Line}
 use Rattle.show_lines.proofs.GrammarLaws.{width-in-front, width-most}
 use Rattle.show_lines.proofs.PartLaws.{cond-elim}
 use Rattle.show_lines.proofs.LineLaws.{line-reaches, extension-front, next-at, ready-next}
+
+-- ---- A number of one, two or three bytes
+
+pub one_byte : (s : List ℕ) → length s ≡ 1 → get_or s 0 0 ≡ number 256 s
+one_byte s e = sym (number-one s (omega (arith, e))) ∙ ap (λ (l : List ℕ). number 256 l) (take_all 1 s (omega (arith, e)))
+
+pub two_bytes : (s : List ℕ) → length s ≡ 2 → number 256 (take 2 s) ≡ number 256 s
+two_bytes s e = ap (λ (l : List ℕ). number 256 l) (take_all 2 s (omega (arith, e)))
+
+pub three-bytes : (s : List ℕ) → length s ≡ 3 → get_or s 0 0 * 65536 + number 256 (take 2 (drop 1 s)) ≡ number 256 s
+unfolding number number_on
+three-bytes [] e = absurd (omega (arith, e))
+three-bytes (a ∷ []) e = absurd (omega (arith, e))
+three-bytes (a ∷ b ∷ []) e = absurd (omega (arith, e))
+three-bytes (a ∷ b ∷ c ∷ []) e = omega arith
+three-bytes (a ∷ b ∷ c ∷ d ∷ s) e = absurd (omega (arith, e))
+
+pub no_byte : (s : List ℕ) → length s ≡ 0 → 0 ≡ number 256 s
+unfolding number number_on
+no_byte [] e = refl
+no_byte (a ∷ s) e = absurd (omega (arith, e))
 
 -- ---- A number of up to three bytes, which stand behind zeros
 

@@ -1,11 +1,13 @@
 -- Rules of the grammar's rows, each by one test that is computed over them all. Assumes nothing.
-use Prim.Native.Nat.{ℕ, zero, suc, ◌≤◌}
-use mathlib.Core.Path.{◌≡◌, refl}
+use Prim.Native.Nat.{ℕ, zero, suc, ◌≤◌, ◌<◌}
+use mathlib.Core.Path.{◌≡◌, refl, ap}
 use mathlib.Core.Bool.{Bool, true, ◌&&◌}
 use mathlib.Core.List.{List, [], ◌∷◌}
+use native.Mathlib.Omega.{arith}
 use borrow.Author.Tests.{leb-true}
-use lib.ListN.{get_or}
+use lib.ListN.{length, get_or, get_or-eq_default}
 use lib.Dec.{leb}
+use Rattle.wire.proofs.ListLaws.{get_or-any-default}
 use Rattle.wire.proofs.SumLaws.{and_left, and_right}
 use Rattle.show_lines.specs.Grammar.{grammar, column}
 use Rattle.show_lines.specs.Lines.{front_of, width_of}
@@ -42,3 +44,24 @@ pub width-most : (what : ℕ) → width_of what ≤ 3
 unfolding column
 width-most what =
     leb-true (width_of what) 3 (and_right (leb (width_of what) (front_of what)) (leb (width_of what) 3) (row-measured what))
+
+-- ---- The entries
+
+pub entry_at : (what k : ℕ) (d : List ℕ) → what < 27 → get_or (get_or grammar what d) k 0 ≡ column what k
+unfolding column grammar
+entry_at what k d h = ap (λ (r : List ℕ). get_or r k 0) (get_or-any-default grammar what d [] h)
+
+pub no_row : (what k : ℕ) → 27 ≤ what → column what k ≡ 0
+unfolding column grammar
+no_row what k h = ap (λ (r : List ℕ). get_or r k 0) (get_or-eq_default grammar [] h)
+
+seven : every (λ r. leb (length r) 7) grammar ≡ true
+unfolding grammar
+seven = refl
+
+pub no-column : (what k : ℕ) → 7 ≤ k → column what k ≡ 0
+unfolding column
+no-column what k h =
+    let row : List ℕ = get_or grammar what [] in
+    let few : length row ≤ 7 = leb-true (length row) 7 (every-at (λ r. leb (length r) 7) grammar seven refl what) in
+    get_or-eq_default row 0 (omega arith)

@@ -1,6 +1,6 @@
 -- The choice by part, and that what is due always stands in a part that goes on. Assumes nothing.
 use Prim.Native.Nat.{ℕ, ◌≤◌, ◌<◌}
-use mathlib.Core.Path.{◌≡◌, refl}
+use mathlib.Core.Path.{◌≡◌, refl, ◌∙◌}
 use mathlib.Core.Bool.{Bool, true, false, cond}
 use native.Mathlib.Omega.{arith}
 use native.Mathlib.Nat.{le_refl}
@@ -55,6 +55,10 @@ part-within n c r =
 
 none-of-0 : NoPart 0
 none-of-0 = (λ e. omega (arith, e), λ e. omega (arith, e), λ e. omega (arith, e), λ e. omega (arith, e))
+
+-- a number that is none of the parts, as the code tests it
+pub no_part : (x p : ℕ) → x ≡ p → (x ≡ 1 → ⊥) → (x ≡ 2 → ⊥) → (x ≡ 3 → ⊥) → (x ≡ 4 → ⊥) → NoPart p
+no_part x p e a b c d = (λ k. a (e ∙ k), λ k. b (e ∙ k), λ k. c (e ∙ k), λ k. d (e ∙ k))
 
 -- the hello's own part
 pub hello_part : {p : ℕ} → p ≡ 0 → NoPart p
