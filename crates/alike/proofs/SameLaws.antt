@@ -1,6 +1,6 @@
 -- What the tests of lists and names say: they hold of equal ones and of no others. Assumes nothing.
 use Prim.Native.Nat.{ℕ}
-use mathlib.Core.Path.{◌≡◌, refl, ap, ap₂}
+use mathlib.Core.Path.{◌≡◌, refl, sym, ap, ap₂}
 use mathlib.Core.Bool.{Bool, true, false, false≢true}
 use mathlib.Core.List.{List, [], ◌∷◌}
 use mathlib.Core.Option.{Option, none, some}
@@ -25,6 +25,11 @@ module _ {A : Type 0} {q : A → A → Bool} (t : Tests q) (x y : A) where
       go : (b : Bool) → (b ≡ true → ⊥) → b ≡ false
       go true f = absurd (f refl)
       go false f = refl
+
+  -- an answer that is yes exactly for equal elements is its answer
+  pub equal_as : (b : Bool) → (b ≡ true → x ≡ y) → (x ≡ y → b ≡ true) → b ≡ q x y
+  equal_as true f g = sym (equal-yes (f refl))
+  equal_as false f g = sym (equal-no (λ e. false≢true (g e)))
 
 pub number-tests : Tests eqb
 number-tests = record { yes = λ x y e. eqb-true x y e; self = λ x. eq-eqb x x refl }
