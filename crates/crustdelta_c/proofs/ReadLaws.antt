@@ -1,5 +1,5 @@
 -- The number of a refusal as the answer of `crustdelta_read`. Assumes nothing.
-use Prim.Native.Nat.{◌+◌, ◌^◌}
+use Prim.Native.Nat.{ℕ, ◌+◌, ◌^◌, ◌≤◌}
 use mathlib.Core.Path.{◌≡◌, refl}
 use native.Mathlib.Omega.{arith}
 use Rattle.wire.specs.Answer.{Answer, result, refused}
@@ -10,6 +10,11 @@ use Rattle.fingerprint.specs.Report.{number_of}
 use Rattle.fingerprint.proofs.Accepted.{Numbered}
 use Rattle.fingerprint.proofs.StepLaws.{question-some}
 use Rattle.crustdelta_c.specs.Calls.{read_answer}
+
+pub refusal-bound : (n : ℕ) (a : Answer ClientHello) → Numbered a → n ≡ number_of a → n ≤ 23
+unfolding number_of
+refusal-bound n (result v) f e = omega arith
+refusal-bound n (refused k) f e = omega (arith, f.1)
 
 pub none-refused : (a : Answer ClientHello) → Numbered a → 0 ≡ number_of a → 0 ≡ read_answer a
 unfolding number_of read_answer
