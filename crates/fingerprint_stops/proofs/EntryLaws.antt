@@ -145,6 +145,30 @@ list_at-small shares = omega arith
 list_at-small parameters = omega arith
 list_at-small other = omega arith
 
+pub list-other : (k : Kind) → (k ≡ name → ⊥) → (k ≡ groups → ⊥) → (k ≡ algorithms → ⊥) → (k ≡ protocols → ⊥) → (k ≡ versions → ⊥) → (k ≡ shares → ⊥) → 0 ≡ list_at k
+unfolding list_at
+list-other name a b c d e f = absurd (a refl)
+list-other groups a b c d e f = absurd (b refl)
+list-other algorithms a b c d e f = absurd (c refl)
+list-other protocols a b c d e f = absurd (d refl)
+list-other versions a b c d e f = absurd (e refl)
+list-other shares a b c d e f = absurd (f refl)
+list-other parameters a b c d e f = refl
+list-other other a b c d e f = refl
+
+-- ---- its most
+
+pub most_other : (k : Kind) → (k ≡ protocols → ⊥) → 64 ≡ most k
+unfolding most
+most_other name h = refl
+most_other groups h = refl
+most_other algorithms h = refl
+most_other protocols h = absurd (h refl)
+most_other versions h = refl
+most_other shares h = refl
+most_other parameters h = refl
+most_other other h = refl
+
 -- ---- a body; its list begins after `width` bytes
 
 module _ (k : Kind) (bs : List ℕ) (width : ℕ) (is : width ≡ list_at k) where
