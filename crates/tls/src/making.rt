@@ -69,15 +69,14 @@ fn put_in_order(types: &mut [ExtType], shuffled: bool, tape: &[u8], at: usize) -
     at
 }
 
-// The block of extensions with its length before it, which is written last, when they stand and it is known: so no `put_vector`.
+// The block of extensions with its length before it, which is written last, when they stand and it is known: so no `put_vector`. The types
+// are the profile's array, copied whole and then cut: that is two moves, and the listed ones alone by `copy_from_slice` a call of `memmove`.
 fn put_block(out: &mut [u8], profile: &Profile, name: &[u8], scid: &[u8], tape: &[u8]) -> Wrote
     requires { BlockRoom profile.now name.now scid.now tape.now (length out.old) }
     ensures { Puts (counted_block (profile_of profile.now) name.now scid.now tape.now) result out.old out.new }
 {
-    let listed = profile.extensions();
-    let mut order = [ExtType(0); 16];
-    let types = &mut order[..listed.len()];
-    types.copy_from_slice(listed);
+    let mut order = profile.extensions_order;
+    let types = &mut order[..profile.extensions().len()];
     let drawn = 32 + session_length(profile.use_empty_session_id);
     let at = put_in_order(types, profile.randomize_extensions_order, tape, drawn);
     let w = build_extensions(&mut out[2..], types, profile, name, scid, tape, at);

@@ -51,14 +51,16 @@ pub fn w24(out: &mut [u8], v: u32)
     put_be::<3>(out, u64::from(v));
 }
 
-// Copies src to the front of out and gives its length.
+// Copies src to the front of out and gives its length. By a loop, which works on many bytes at once: `copy_from_slice` becomes a call of
+// `memmove`, which the archives would need from outside beside `memcpy` and `memset`, and which takes longer than the copy where src is short.
 pub fn put_bytes(out: &mut [u8], src: &[u8]) -> usize
     requires { length src.now ≤ length out.old }
     ensures { Put src.now result out.old out.new }
 {
-    let n = src.len();
-    out[..n].copy_from_slice(src);
-    n
+    for (i, &b) in src.iter().enumerate() {
+        out[i] = b;
+    }
+    src.len()
 }
 
 // A 16-bit number, or a type that stands for one.

@@ -1,19 +1,28 @@
 -- The types are in the order of the profile; the extensions stand after the place of their length, and then the length is written. Assumes
 -- nothing.
-use Prim.Native.Nat.{◌+◌, ◌≤◌}
+use Prim.Native.Nat.{ℕ, ◌+◌, ◌≤◌}
 use native.Mathlib.Nat.{le_trans}
 use mathlib.Core.Path.{◌≡◌, sym, ap}
-use lib.ListN.{length}
+use mathlib.Core.List.{List}
+use lib.ListN.{length, take}
 use lib.Seq.{length-take-le}
+use Rattle.std.proofs.lemmas.List.{length-take, take_min}
 use Rattle.profiles.specs.Sizes.{session_length}
 use Rattle.profiles.specs.Code.{profile_of}
 use Rattle.tls.proofs.OrderLaws.{Ordered, order-room, ordered}
-use Rattle.tls.proofs.BuildLaws.{length-first}
 use Rattle.tls.proofs.Extents.{extensions-rise}
 use Rattle.tls.proofs.HelloLaws.{block-rises, block-long, extensions-room, block-small, block_back, block-put}
 use native.Mathlib.Omega.{arith}
 use Rattle.tls.proofs.making.put_block.Goals as goal
 use Rattle.tls.proofs.making.put_block.Goals.{After-put_in_order-at, After-session_length-drawn, Start}
+
+-- a list is the first of an array, so the array cut to its length is the list
+module _ {A : Type 0} (k : ℕ) (array : List A) {listed : List A} (e : listed ≡ take k array) where
+  within : length listed ≤ length array
+  within = omega (arith, ap length e, length-take k array)
+
+  cut : take (length listed) array ≡ take k array
+  cut = rw (e, length-take k array) (take_min k array)
 
 drawn : (c : After-session_length-drawn) → 32 + c.session_length-drawn.result ≡ 32 + session_length (profile_of (c.args.profile.now))
 drawn c = ap (λ n. 32 + n) c.session_length-drawn.ensures.0
@@ -21,23 +30,22 @@ drawn c = ap (λ n. 32 + n) c.session_length-drawn.ensures.0
 chosen : (c : After-put_in_order-at) → Ordered c.args.profile.now c.args.tape.now c.put_in_order-at.new.types c.put_in_order-at.result
 chosen c =
     let args = c.args in
-    let put = rw (c.copy_from_slice.ensures.after, c.extensions-listed.ensures) at c.put_in_order-at.ensures in
+    let put = rw (cut _ _ c.extensions.ensures) at c.put_in_order-at.ensures in
     let drawn = ap (λ n. 32 + n) c.session_length-drawn.ensures.0 in
     ordered args.profile.now c.requires.sound drawn args.tape.now put.is put.order
 
+pub slice_bounds-order-end : goal.slice_bounds-order-end
+slice_bounds-order-end c = within _ _ c.extensions.ensures
+
 pub slice_bounds-types-end : goal.slice_bounds-types-end
-slice_bounds-types-end c =
-    let p = c.args.profile.now in
-    let few : length c.extensions-listed.result.now ≤ 16 =
-    rw c.extensions-listed.ensures (le_trans (length-first p.extension_count p.extensions_order) c.requires.sound.extensions) in
-    sym (length-take-le (length c.extensions-listed.result.now) _ few)
+slice_bounds-types-end c = sym (length-take-le _ _ (within _ _ c.extensions.ensures))
 
 pub put_in_order-at-requires : goal.put_in_order-at-requires
 put_in_order-at-requires c =
     let start = (goal.at.put_in_order-at-requires c).Start in
     let args = start.args in
     let rises = block-rises args.profile.now args.name.now args.scid.now args.tape.now (extensions-rise (profile_of args.profile.now) args.name.now args.scid.now args.tape.now) in
-    rw (c.copy_from_slice.ensures.after, c.extensions-listed.ensures)
+    rw (cut _ _ c.extensions.ensures)
     (order-room args.profile.now start.requires.sound (drawn (goal.at.put_in_order-at-requires c).After-session_length-drawn) (le_trans rises start.requires.has.there))
 
 pub slice_bounds-build_extensions-count : goal.slice_bounds-build_extensions-count
