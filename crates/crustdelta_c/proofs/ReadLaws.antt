@@ -11,6 +11,7 @@ use Rattle.fingerprint.proofs.Accepted.{Numbered}
 use Rattle.fingerprint.proofs.StepLaws.{question-some}
 use Rattle.crustdelta_c.specs.Calls.{read_answer}
 
+-- the reader's refusals have numbers up to 23
 pub refusal-bound : (n : ℕ) (a : Answer ClientHello) → Numbered a → n ≡ number_of a → n ≤ 23
 unfolding number_of
 refusal-bound n (result v) f e = omega arith
