@@ -9,6 +9,7 @@ ghost use Rattle.std.specs.Prelude.{cond};
 ghost use Rattle.script_writing.specs.Shown.{Written};
 ghost use Rattle.registries.specs.Names.{numbers_of, names_of, name_of, Tabled};
 
+use script::words::word_at;
 use script_writing::texts::put_text;
 use suites::SUITES;
 use tables::{ALGORITHMS, GROUPS, PARAMETERS, TYPES, VERSIONS};
@@ -42,10 +43,16 @@ impl Registry {
     pub fn put_name(self, out: &mut [u8], grease: bool, v: u64) -> usize
         ensures { Written (name_of self (cond grease 1 0) v) result out.old out.new }
     {
+        self.put_name_by(out, usize::from(grease), v)
+    }
+
+    // The same by the place of a spare word, which is written for a number that has no name: nothing where no such word stands.
+    pub fn put_name_by(self, out: &mut [u8], spare: usize, v: u64) -> usize
+        ensures { Written (name_of self spare v) result out.old out.new }
+    {
         match self.table().iter().find(|entry| entry.0 == v) {
             Some(entry) => put_text(out, entry.1.as_bytes()),
-            None if grease => put_text(out, b"GREASE"),
-            None => put_text(out, b"unknown"),
+            None => put_text(out, word_at(b"unknown GREASE", spare)),
         }
     }
 }
