@@ -6,13 +6,13 @@ ghost use Rattle.std.specs.Prelude.{◌+◌, ◌≤◌, ◌<◌, ◌^◌, ◌≡
 ghost use Rattle.std.specs.List.{take_while};
 ghost use Rattle.wire.specs.Stops.{stop_of};
 ghost use Rattle.show_lines.specs.Lines.{row};
-ghost use Rattle.show_marks.specs.Text.{last_row};
+ghost use Rattle.show_marks.specs.Text.{last_row, stop_from, stop_by};
 ghost use Rattle.show_words.specs.Code.{LineWritten};
 ghost use Rattle.show_frames.specs.Frames.{line_size, RowsWritten, FramesListed};
 
 use frames::reading::{CryptoFrame, Frame, read_frame};
-use show_marks::put_verdict;
-use show_words::{Spot, Told, put_last_line, put_line};
+use show_marks::{number_of, put_verdict_by};
+use show_words::{Spot, Told, put_last_line_by, put_line_by, stop_from};
 use wire::{Refusal, Stop};
 
 // A list of frames may have up to 131,072 bytes, so a place has five hex digits.
@@ -53,7 +53,7 @@ fn reason(refusal: Refusal) -> &'static str {
 }
 
 // What is told by some words, and of a refusal there. The words name neither the line nor its part.
-fn told(words: &'static str, stop: Option<Stop>) -> Told {
+fn told(words: &'static str, stop: Option<Stop>) -> Told<'static> {
     Told {
         words,
         why: stop.map(|s| reason(s.refusal)),
@@ -69,7 +69,7 @@ fn told(words: &'static str, stop: Option<Stop>) -> Told {
 }
 
 // Of a CRYPTO frame: where its data begins in the stream, how long it is, and where it ends.
-fn told_crypto(c: CryptoFrame, stop: Option<Stop>) -> Told
+fn told_crypto(c: CryptoFrame, stop: Option<Stop>) -> Told<'static>
     requires { (c.start ≤ c.end) × (c.end < 2 ^ 63) × (c.offset < 2 ^ 62) }
 {
     let length = (c.end - c.start) as u64;
@@ -82,7 +82,7 @@ fn told_crypto(c: CryptoFrame, stop: Option<Stop>) -> Told
 }
 
 // Of the frame at the front.
-fn told_frame(input: &[u8], stop: Option<Stop>) -> Told {
+fn told_frame(input: &[u8], stop: Option<Stop>) -> Told<'static> {
     match read_frame(input) {
         Ok(Frame::Padding) => Told {
             said: zeros(input) as u64,
@@ -123,10 +123,17 @@ impl<'a> Iterator for Lines<'a> {
     }
 }
 
-// Writes the line of so many bytes at a place of the list. What it shares with a hello's line is `put_line`; what is told of it is its own.
-fn put_row(out: &mut [u8], frames: &[u8], at: usize, size: usize, stop: Option<Stop>) -> usize
+// Writes the line of so many bytes at a place of the list. What it shares with a hello's line is `put_line_by`; what is told of it is its own.
+fn put_row(
+    out: &mut [u8],
+    frames: &[u8],
+    at: usize,
+    size: usize,
+    number: u64,
+    stop: Option<Stop>,
+) -> usize
     requires { at + size ≤ length frames.now }
-    ensures { LineWritten 5 frames.now (stop_of stop) (row at (at + size) 0) result out.old out.new }
+    ensures { LineWritten 5 frames.now (stop_by number stop) (row at (at + size) 0) result out.old out.new }
 {
     let spot = Spot {
         digits: DIGITS,
@@ -134,7 +141,7 @@ fn put_row(out: &mut [u8], frames: &[u8], at: usize, size: usize, stop: Option<S
         past: at + size,
     };
     let t = told_frame(&frames[at..], stop);
-    put_line(out, frames, spot, stop, t)
+    put_line_by(out, frames, spot, number, stop, t)
 }
 
 fn last_words(at: usize, length: usize) -> &'static str {
@@ -146,18 +153,18 @@ fn last_words(at: usize, length: usize) -> &'static str {
 }
 
 // Writes the last line: the list's end, or what is left of it where the answer has no more room.
-fn put_end(out: &mut [u8], frames: &[u8], at: usize, stop: Option<Stop>) -> usize
+fn put_end(out: &mut [u8], frames: &[u8], at: usize, number: u64, stop: Option<Stop>) -> usize
     requires { at ≤ length frames.now }
-    ensures { LineWritten 5 frames.now (stop_of stop) (last_row frames.now at) result out.old out.new }
+    ensures { LineWritten 5 frames.now (stop_by number stop) (last_row frames.now at) result out.old out.new }
 {
     let t = told(last_words(at, frames.len()), stop);
-    put_last_line(out, frames, DIGITS, at, stop, t)
+    put_last_line_by(out, frames, DIGITS, at, number, stop, t)
 }
 
 // Writes all lines, or as many as there is room for, and a last one. Those of a hello have no test of the room. No `for`: where the room is
 // short it would have taken one line more than is written.
-fn put_lines(out: &mut [u8], frames: &[u8], stop: Option<Stop>) -> usize
-    ensures { RowsWritten frames.now (stop_of stop) result out.old out.new }
+fn put_lines(out: &mut [u8], frames: &[u8], number: u64, stop: Option<Stop>) -> usize
+    ensures { RowsWritten frames.now (stop_by number stop) result out.old out.new }
 {
     let mut lines = Lines { frames, at: 0 };
     let mut used = 0;
@@ -165,15 +172,29 @@ fn put_lines(out: &mut [u8], frames: &[u8], stop: Option<Stop>) -> usize
         let Some((at, size)) = lines.next() else {
             break;
         };
-        used += put_row(&mut out[used..], frames, at, size, stop);
+        used += put_row(&mut out[used..], frames, at, size, number, stop);
     }
-    used + put_end(&mut out[used..], frames, lines.at, stop)
+    used + put_end(&mut out[used..], frames, lines.at, number, stop)
+}
+
+// Writes the listing of any frames, where the stop has any number.
+fn put_all(out: &mut [u8], frames: &[u8], number: u64, stop: Option<Stop>) -> usize
+    ensures { FramesListed frames.now (stop_by number stop) result out.old out.new }
+{
+    let n = put_verdict_by(out, DIGITS, number, stop);
+    n + put_lines(&mut out[n..], frames, number, stop)
 }
 
 // Writes the listing of any frames, of which the joiner's stop is known.
 pub fn put_frame_listing(out: &mut [u8], frames: &[u8], stop: Option<Stop>) -> usize
     ensures { FramesListed frames.now (stop_of stop) result out.old out.new }
 {
-    let n = put_verdict(out, DIGITS, stop);
-    n + put_lines(&mut out[n..], frames, stop)
+    put_all(out, frames, number_of(stop), stop)
+}
+
+// The same by the number of the stop, 0 where the frames are joined, and its place. It may be a number that no refusal has.
+pub fn put_frame_listing_by(out: &mut [u8], frames: &[u8], number: u64, place: usize) -> usize
+    ensures { FramesListed frames.now (stop_from number place) result out.old out.new }
+{
+    put_all(out, frames, number, stop_from(number, place))
 }

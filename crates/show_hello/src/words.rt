@@ -223,7 +223,7 @@ impl<'a> Shown<'a> {
     }
 
     // What is told of it, and of a refusal there.
-    pub fn told(self, stop: Option<Stop>) -> Told
+    pub fn told(self, stop: Option<Stop>) -> Told<'static>
         requires { front_bytes self.line.front ≤ length self.bytes.now }
     {
         let rest = &self.bytes[self.line.front.unwrap_or(0)..];

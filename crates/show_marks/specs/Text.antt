@@ -1,16 +1,27 @@
 -- The text of a listing: for each line its mark or none, its place, its bytes, what they are in words, and on the marked line the number
 -- of the refusal and its question in words. Place, bytes, mark and number are laid down here; the words are not.
-use Rattle.std.specs.Prelude.{ℕ, suc, ◌-◌, ◌*◌, min, ◌≡◌, Bool, false, cond, List, [], ◌∷◌, ◌++◌, length, take, drop, replicate, leb, ltb}
+use Rattle.std.specs.Prelude.{ℕ, suc, ◌-◌, ◌*◌, min, ◌≡◌, Bool, false, cond, List, [], ◌∷◌, ◌++◌, length, take, drop, replicate, eqb, leb, ltb, Some, None}
+use Rattle.std.specs.Prelude as std
 use Rattle.std.proofs.Math.Option.{Option, none, some}
 use Rattle.wire.specs.Sums.{indicator, total}
 use Rattle.script.specs.Scan.{text, space}
 use Rattle.script_writing.specs.Decimal.{decimal_text}
 use Rattle.script_writing.specs.Hex.{hex_text}
 use Rattle.script_writing.specs.Hex.{hex_digits}
-use Rattle.wire.specs.Stops.{Stopped}
+use Rattle.wire.specs.Stops.{Stopped, stopped}
+use Rattle.wire.specs.declared.Stop.{Stop}
 use Rattle.show_lines.specs.Lines.{Row, row, holds}
 
 -- ---- A line's mark and place
+
+-- the stop that a number and a place stand for: no number is 0
+abbrev pub stop_from : ℕ → ℕ → Option Stopped
+stop_from number place = cond (eqb number 0) none (some (stopped number place))
+
+-- a stop of the code under any number, in place of that of its refusal
+abbrev pub stop_by : ℕ → std.Option Stop → Option Stopped
+stop_by number None = none
+stop_by number (Some s) = some (stopped number s.place)
 
 -- the place of the stop lies in a line
 abbrev pub marks : Option Stopped → Row → Bool

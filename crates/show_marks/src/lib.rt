@@ -8,7 +8,7 @@ ghost use Rattle.script_writing.specs.Answers.{WrittenAll};
 ghost use Rattle.show_marks.specs.Text as specs;
 ghost use Rattle.show_lines.specs.Lines.{row};
 ghost use Rattle.wire.specs.Stops.{stop_of};
-ghost use Rattle.show_marks.specs.Text.{marks, blanks, mark_text, place_parts, short_parts, count_parts, run_parts};
+ghost use Rattle.show_marks.specs.Text.{marks, stop_by, blanks, mark_text, place_parts, short_parts, count_parts, run_parts};
 ghost use Rattle.show_marks.specs.Text.{front_parts, verdict_parts};
 
 use script_writing::bytes::put_hex;
@@ -25,14 +25,29 @@ pub fn is_marked(stop: Option<Stop>, at: usize, end: usize) -> bool
     stop.is_some_and(|s| at <= s.place && s.place < end)
 }
 
+// The number under which a stop is listed: that of its refusal. The writers take it beside the stop, since who calls them may have one that
+// no refusal has.
+pub fn number_of(stop: Option<Stop>) -> u64
+    ensures { stop_by result stop ≡ stop_of stop }
+{
+    stop.map_or(0, |s| s.refusal.number())
+}
+
 // Writes the first line of a listing: that all is accepted, or the number of the refusal and its place.
 pub fn put_verdict(out: &mut [u8], width: usize, stop: Option<Stop>) -> usize
     ensures { WrittenAll (verdict_parts width (stop_of stop)) result out.old out.new }
 {
+    put_verdict_by(out, width, number_of(stop), stop)
+}
+
+// The same under any number.
+pub fn put_verdict_by(out: &mut [u8], width: usize, number: u64, stop: Option<Stop>) -> usize
+    ensures { WrittenAll (verdict_parts width (stop_by number stop)) result out.old out.new }
+{
     let Some(s) = stop else {
         return put_text(out, b"accepted");
     };
-    let n = put_number(out, b"refused ", s.refusal.number());
+    let n = put_number(out, b"refused ", number);
     let m = n + put_text(&mut out[n..], b" at");
     m + put_digits(&mut out[m..], width, s.place as u64)
 }

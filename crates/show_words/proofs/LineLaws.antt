@@ -9,14 +9,17 @@ use native.Mathlib.Omega.{arith}
 use borrow.Rule.Slice.PartMut.{mid_of, put_mid}
 use lib.ListN.{length, take, drop, length-drop}
 use lib.Seq.{take_all}
-use Rattle.wire.specs.Stops.{Stopped}
+use Rattle.std.specs.Prelude.{Some, None}
+use Rattle.std.specs.Prelude as std
+use Rattle.wire.specs.Stops.{Stopped, stop_of}
+use Rattle.wire.specs.declared.Stop.{Stop}
 use Rattle.wire.proofs.ListLaws.{lt-or-le}
 use Rattle.script_writing.specs.Decimal.{decimal_text}
 use Rattle.script_writing.specs.Answers.{WrittenAll}
 use Rattle.script_writing.proofs.AnswerLaws.{written-more}
 use Rattle.script.specs.Scan.{text}
 use Rattle.show_lines.specs.Lines.{Row, row}
-use Rattle.show_marks.specs.Text.{marks, front_parts, reason_parts, bytes_of, LineParts, LinesParts}
+use Rattle.show_marks.specs.Text.{marks, stop_by, front_parts, reason_parts, bytes_of, LineParts, LinesParts}
 use Rattle.show_words.specs.Code.{LineWritten, LinesWritten}
 use Rattle.show_words.proofs.WroteLaws.{all_none}
 
@@ -26,6 +29,12 @@ use Rattle.show_words.proofs.WroteLaws.{all_none}
 pub marks-any : (stop : Option Stopped) (at end what other : ℕ) → marks stop (row at end what) ≡ marks stop (row at end other)
 marks-any none at end what other = refl
 marks-any (some s) at end what other = refl
+
+-- nor does the number of the stop
+pub marks-by : (number : ℕ) (stop : std.Option Stop) (at end what other : ℕ)
+    → marks (stop_of stop) (row at end what) ≡ marks (stop_by number stop) (row at end other)
+marks-by number None at end what other = refl
+marks-by number (Some s) at end what other = refl
 
 -- its bytes, as the code has them: up to its end or the input's
 pub least-bytes : (h : List ℕ) (at past end : ℕ) → end ≡ min past (length h) → take (end - at) (drop at h) ≡ take (past - at) (drop at h)

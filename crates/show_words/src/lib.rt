@@ -3,10 +3,9 @@
 // that `put_piece` names.
 #![tactic(auto)]
 
-ghost use Rattle.std.specs.Prelude.{ℕ, ◌≤◌, length};
+ghost use Rattle.std.specs.Prelude.{ℕ, ◌≤◌, ◌≡◌, length};
 ghost use Rattle.show_lines.specs.Lines.{row};
-ghost use Rattle.show_marks.specs.Text.{last_row};
-ghost use Rattle.wire.specs.Refusals.{question};
+ghost use Rattle.show_marks.specs.Text.{last_row, stop_from, stop_by};
 ghost use Rattle.wire.specs.Stops.{stop_of};
 ghost use Rattle.show_words.specs.Code.{Wrote, ReasonWritten, LineWritten};
 
@@ -14,7 +13,7 @@ use registries::Registry;
 use script_writing::names::put_name;
 use script_writing::numbers::put_decimal;
 use script_writing::texts::{put_number, put_text};
-use show_marks::{is_marked, put_front};
+use show_marks::{is_marked, number_of, put_front};
 use wire::{Refusal, Stop};
 
 // Where a line stands: its first place, and the first one after it. A place has so many digits.
@@ -30,12 +29,12 @@ pub struct Spot {
 // how many bytes are left or where a frame ends, and a value. A phrase that names the length or what is left is one of a line that has them, so these two are
 // no Option, which each of the five pieces that write them would open.
 #[derive(Clone, Copy, Debug)]
-pub struct Told {
-    pub words: &'static str,
-    pub why: Option<&'static str>,
+pub struct Told<'a> {
+    pub words: &'a str,
+    pub why: Option<&'a str>,
     pub depth: usize,
-    pub noun: &'static str,
-    pub part: &'static str,
+    pub noun: &'a str,
+    pub part: &'a str,
     pub registered: Option<(Registry, u64)>,
     pub front: Option<usize>,
     pub said: u64,
@@ -128,7 +127,7 @@ fn put_value(out: &mut [u8], value: Option<u64>) -> usize
 // Writes what a byte of a phrase stands for. A match with a line for each: a table of functions would be no plainer. A phrase is a text and
 // no list of an enum's pieces, which would take a line for each piece where a text reads as what is said. The bytes go beside what is told,
 // since who tells it need not hold them.
-fn put_piece(out: &mut [u8], piece: u8, told: Told, bytes: &[u8]) -> usize
+fn put_piece(out: &mut [u8], piece: u8, told: Told<'_>, bytes: &[u8]) -> usize
     ensures { Wrote result out.old out.new }
 {
     match piece {
@@ -148,7 +147,7 @@ fn put_piece(out: &mut [u8], piece: u8, told: Told, bytes: &[u8]) -> usize
 }
 
 // Writes a phrase.
-fn put_phrase(out: &mut [u8], phrase: &str, told: Told, bytes: &[u8]) -> usize
+fn put_phrase(out: &mut [u8], phrase: &str, told: Told<'_>, bytes: &[u8]) -> usize
     ensures { Wrote result out.old out.new }
 {
     let mut used = 0;
@@ -159,10 +158,10 @@ fn put_phrase(out: &mut [u8], phrase: &str, told: Told, bytes: &[u8]) -> usize
 }
 
 // Writes the number of a refusal and its question in words.
-fn put_reason(out: &mut [u8], refusal: Refusal, told: Told, bytes: &[u8]) -> usize
-    ensures { ReasonWritten (question refusal) result out.old out.new }
+fn put_reason(out: &mut [u8], number: u64, told: Told<'_>, bytes: &[u8]) -> usize
+    ensures { ReasonWritten number result out.old out.new }
 {
-    let n = put_number(out, b"  -- ", refusal.number());
+    let n = put_number(out, b"  -- ", number);
     let m = n + put_text(&mut out[n..], b": ");
     match told.why {
         Some(why) => m + put_phrase(&mut out[m..], why, told, bytes),
@@ -170,11 +169,59 @@ fn put_reason(out: &mut [u8], refusal: Refusal, told: Told, bytes: &[u8]) -> usi
     }
 }
 
+// The refusals that a line of frames or of a hello tells in words of their own; it has the same words for all others.
+const WORDED: [Refusal; 8] = [
+    Refusal::UnknownFrame,
+    Refusal::FrameCut,
+    Refusal::FramePastLimit,
+    Refusal::FramesDisagree,
+    Refusal::HelloTooLong,
+    Refusal::NoClientHello,
+    Refusal::ParameterTwice,
+    Refusal::ListTooLong,
+];
+
+// The stop that a number and a place stand for; there is none for number 0. It is told in the words of the refusal that has the number, and
+// where none has it, in those that a line has for all others.
+pub fn stop_from(number: u64, place: usize) -> Option<Stop>
+    ensures { stop_by number result ≡ stop_from number place }
+{
+    if number == 0 {
+        return None;
+    }
+    let worded = WORDED.iter().find(|r| r.number() == number);
+    Some(Stop {
+        refusal: worded.copied().unwrap_or(Refusal::FieldMalformed),
+        place,
+    })
+}
+
 // Writes the line of an input's bytes that stands at a place, of whatever kind. Output, input and stop go one by one, here, in show_hello and
 // in show_frames: each contract speaks of each, and a struct would only put a name before each.
-pub fn put_line(out: &mut [u8], input: &[u8], spot: Spot, stop: Option<Stop>, told: Told) -> usize
+pub fn put_line(
+    out: &mut [u8],
+    input: &[u8],
+    spot: Spot,
+    stop: Option<Stop>,
+    told: Told<'_>,
+) -> usize
     requires { (spot.at ≤ length input.now) × (spot.at ≤ spot.past) }
     ensures { (what : ℕ) → LineWritten spot.digits input.now (stop_of stop) (row spot.at spot.past what) result out.old out.new }
+{
+    put_line_by(out, input, spot, number_of(stop), stop, told)
+}
+
+// The same where the stop has any number.
+pub fn put_line_by(
+    out: &mut [u8],
+    input: &[u8],
+    spot: Spot,
+    number: u64,
+    stop: Option<Stop>,
+    told: Told<'_>,
+) -> usize
+    requires { (spot.at ≤ length input.now) × (spot.at ≤ spot.past) }
+    ensures { (what : ℕ) → LineWritten spot.digits input.now (stop_by number stop) (row spot.at spot.past what) result out.old out.new }
 {
     let at = spot.at;
     let end = spot.past.min(input.len());
@@ -183,7 +230,7 @@ pub fn put_line(out: &mut [u8], input: &[u8], spot: Spot, stop: Option<Stop>, to
     let n = put_front(out, marked, spot.digits, at, bytes);
     let m = n + put_phrase(&mut out[n..], told.words, told, bytes);
     match stop {
-        Some(s) if marked => m + put_reason(&mut out[m..], s.refusal, told, bytes),
+        Some(_) if marked => m + put_reason(&mut out[m..], number, told, bytes),
         _ => m,
     }
 }
@@ -195,15 +242,31 @@ pub fn put_last_line(
     digits: usize,
     at: usize,
     stop: Option<Stop>,
-    told: Told,
+    told: Told<'_>,
 ) -> usize
     requires { at ≤ length input.now }
     ensures { LineWritten digits input.now (stop_of stop) (last_row input.now at) result out.old out.new }
+{
+    put_last_line_by(out, input, digits, at, number_of(stop), stop, told)
+}
+
+// The same where the stop has any number.
+pub fn put_last_line_by(
+    out: &mut [u8],
+    input: &[u8],
+    digits: usize,
+    at: usize,
+    number: u64,
+    stop: Option<Stop>,
+    told: Told<'_>,
+) -> usize
+    requires { at ≤ length input.now }
+    ensures { LineWritten digits input.now (stop_by number stop) (last_row input.now at) result out.old out.new }
 {
     let spot = Spot {
         digits,
         at,
         past: input.len() + 1,
     };
-    put_line(out, input, spot, stop, told)
+    put_line_by(out, input, spot, number, stop, told)
 }

@@ -1,13 +1,5 @@
--- `put_frame_listing` meets its contract: the verdict and the lines are written one after the other. Assumes nothing.
-use mathlib.Core.Path.{refl}
-use Rattle.wire.specs.Stops.{stop_of}
-use Rattle.show_frames.proofs.TurnLaws.{listing-is}
+-- `put_frame_listing` meets its contract: the number is that of the refusal. Assumes nothing.
 use Rattle.show_frames.proofs.put_frame_listing.Goals as goal
 
 pub returns : goal.returns
-returns c =
-    let args = c.args in
-    let verdict = c.put_verdict-n in
-    let lines = c.put_lines in
-    listing-is args.frames.now (stop_of args.stop) verdict.result lines.result _ args.out.now verdict.new.out
-    lines.new.out verdict.auto.out verdict.ensures refl lines.ensures
+returns c = rw c.number_of.ensures at c.put_all.ensures

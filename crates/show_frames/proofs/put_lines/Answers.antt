@@ -1,7 +1,7 @@
 -- `put_lines` meets its contract: the lines so far stand in the output, and the others begin where they end. Assumes nothing.
 use Prim.Native.Nat.{ℕ, zero-le}
 use mathlib.Core.Path.{◌≡◌, refl, sym, ap, ◌∙◌, subst}
-use Rattle.wire.specs.Stops.{stop_of}
+use Rattle.show_marks.specs.Text.{stop_by}
 use Rattle.show_frames.proofs.TurnLaws.{Going, going-none, going_more, ended-whole, ended-short}
 use Rattle.std.proofs.Common.{rules}
 use Rattle.show_frames.specs.declared.Lines.{Lines}
@@ -11,13 +11,13 @@ use Rattle.show_frames.proofs.put_lines.Goals.{else-loop-out-test, then-loop-out
 pub loop-out-init : goal.loop-out-init
 loop-out-init c =
     let args = c.args in
-    (refl, zero-le, zero-le, refl, going-none args.frames.now (stop_of args.stop) args.out.now)
+    (refl, zero-le, zero-le, refl, going-none args.frames.now (stop_by args.number args.stop) args.out.now)
 
 pub loop-out-preserved : goal.loop-out-preserved
 loop-out-preserved c =
     let args = c.args in
     let h = args.frames.now in
-    let stop = stop_of args.stop in
+    let stop = stop_by args.number args.stop in
     let l = c.loop-out in
     let w = c.put_row-used in
     let at = c.in-Some.at in
@@ -37,7 +37,7 @@ pub returns : goal.returns
 returns c =
     let args = c.args in
     let h = args.frames.now in
-    let stop = stop_of args.stop in
+    let stop = stop_by args.number args.stop in
     let l = c.loop-out in
     let w = c.put_end in
     let there = c.loop-out-test.lines.at in

@@ -1,7 +1,7 @@
 -- `show_hello::put_lines` meets its contract: the lines so far stand in the output, and the others begin at the cursor. Assumes nothing.
 use Prim.Native.Nat.{zero-le}
 use mathlib.Core.Path.{refl, sym, ◌∙◌, subst}
-use Rattle.wire.specs.Stops.{stop_of}
+use Rattle.show_marks.specs.Text.{stop_by}
 use Rattle.show_lines.specs.Rows.{cursor_of}
 use Rattle.show_lines.specs.declared.cursor.Cursor.{Cursor}
 use Rattle.show_hello.proofs.TurnLaws.{Going, going-none, going_more, going-ended}
@@ -13,13 +13,13 @@ loop-c-init c =
     let args = c.args in
     let first = c.new-c-items.ensures in
     rw c.into_iter-c-iterator.ensures.into_iter_gives
-    (first.goes_on, tt, first.hello, zero-le, refl, going-none args.hello.now (stop_of args.stop) _ args.out.now first.first)
+    (first.goes_on, tt, first.hello, zero-le, refl, going-none args.hello.now (stop_by args.number args.stop) _ args.out.now first.first)
 
 pub loop-c-preserved : goal.loop-c-preserved
 loop-c-preserved c =
     let args = c.args in
     let h = args.hello.now in
-    let stop = stop_of args.stop in
+    let stop = stop_by args.number args.stop in
     let l = c.loop-c in
     let w = c.put_row-used in
     let line = c.in-Some.line in
@@ -40,4 +40,4 @@ returns c =
     let args = c.args in
     let l = c.loop-c in
     let ended = c.in-None.ensures.steps in
-    going-ended args.hello.now (stop_of args.stop) (cursor_of l.c-iterator.cursor) l.used args.out.now l.out (rw l.invariant.2 at ended.0) l.invariant.5
+    going-ended args.hello.now (stop_by args.number args.stop) (cursor_of l.c-iterator.cursor) l.used args.out.now l.out (rw l.invariant.2 at ended.0) l.invariant.5

@@ -3,7 +3,7 @@ use Prim.Native.Nat.{◌≤◌}
 use mathlib.Core.Path.{◌≡◌}
 use lib.ListN.{length}
 use Rattle.show_lines.specs.Rows.{cursor_of}
-use Rattle.wire.specs.Stops.{stop_of}
+use Rattle.show_marks.specs.Text.{stop_by}
 use Rattle.show_hello.proofs.TurnLaws.{Going}
 use Rattle.show_hello.proofs.put_lines.Given as goal
 
@@ -11,4 +11,4 @@ abbrev pub invariant-loop-c : goal.invariant-loop-c
 invariant-loop-c l =
     (goal.iterator-loop-c).can_next l.c-iterator × (goal.iterator-loop-c).is_finite l.c-iterator × (l.c-iterator.hello.now ≡ l.hello)
     × (l.used ≤ length l.out) × (length l.out ≡ length l.initial.out)
-    × Going l.hello (stop_of l.stop) (cursor_of l.c-iterator.cursor) l.used l.initial.out l.out
+    × Going l.hello (stop_by l.number l.stop) (cursor_of l.c-iterator.cursor) l.used l.initial.out l.out

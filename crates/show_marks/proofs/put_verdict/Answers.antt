@@ -1,15 +1,5 @@
--- `show_marks::put_verdict` meets its contract: one text is written after the other. Assumes nothing.
-use mathlib.Core.Path.{refl}
-use Rattle.script_writing.proofs.AnswerLaws.{written_one, written-more}
+-- `show_marks::put_verdict` meets its contract: the number is that of the refusal. Assumes nothing.
 use Rattle.show_marks.proofs.put_verdict.Goals as goal
 
-pub returns-in_default : goal.returns-in_default
-returns-in_default c = rw c.in_default.is (written_one _ _ _ _ c.put_text.ensures)
-
 pub returns : goal.returns
-returns c =
-    let first = c.put_number-n.ensures in
-    let second = written_one _ _ _ _ c.put_text-2.ensures in
-    let third = written_one _ _ _ _ c.put_digits.ensures in
-    let first_two = written-more _ _ _ _ _ _ _ _ first refl second in
-    rw (c.in-Some.is, ← c.number.ensures.is) (written-more _ _ _ _ _ _ _ _ first_two refl third)
+returns c = rw c.number_of.ensures at c.put_verdict_by.ensures

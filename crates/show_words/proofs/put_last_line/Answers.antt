@@ -1,6 +1,5 @@
--- `put_last_line` meets its contract: the last line's end, as the code has it. Assumes nothing.
-use native.Mathlib.Numerals.{add-one}
+-- `put_last_line` meets its contract: the number is that of the refusal. Assumes nothing.
 use Rattle.show_words.proofs.put_last_line.Goals as goal
 
 pub returns : goal.returns
-returns c = rw add-one at c.put_line.ensures 26
+returns c = rw c.number_of.ensures at c.put_last_line_by.ensures

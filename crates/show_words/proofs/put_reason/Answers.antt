@@ -10,10 +10,10 @@ returns-in-Some c =
     let second = written_one _ _ _ _ c.put_text.ensures in
     let third = c.put_phrase.ensures in
     let first_two = written-more _ _ _ _ _ _ _ _ first refl second in
-    record { words = third.parts; is = rw (← c.number.ensures.is) (written-more _ _ _ _ _ _ _ _ first_two refl third.is) }
+    record { words = third.parts; is = written-more _ _ _ _ _ _ _ _ first_two refl third.is }
 
 pub returns-in-None : goal.returns-in-None
 returns-in-None c =
     let first = c.put_number-n.ensures in
     let second = written_one _ _ _ _ c.put_text.ensures in
-    record { words = []; is = rw (← c.number.ensures.is) (written-more _ _ _ _ _ _ _ _ first refl second) }
+    record { words = []; is = written-more _ _ _ _ _ _ _ _ first refl second }

@@ -1,0 +1,5 @@
+-- `show_hello::put_listing_by` meets its contract: the stop is that of number and place. Assumes nothing.
+use Rattle.show_hello.proofs.put_listing_by.Goals as goal
+
+pub returns : goal.returns
+returns c = rw c.stop_from.ensures at c.put_all.ensures
