@@ -133,6 +133,18 @@ meant named.Shares = shares
 meant named.Parameters = parameters
 meant named.Other = other
 
+-- the kind of a place; a place that none has is of bodies that are not read
+abbrev pub kind_at : ℕ → Kind
+kind_at n =
+    cond (eqb n 0) name
+    (cond (eqb n 1) groups
+    (cond (eqb n 2) algorithms
+    (cond (eqb n 3) protocols
+    (cond (eqb n 4) versions
+    (cond (eqb n 5) shares
+    (cond (eqb n 6) parameters
+    other))))))
+
 abbrev pub name_at : ℕ → Option (List ℕ) → List Part
 name_at at none = []
 name_at at (some n) = part at n ∷ []

@@ -6,7 +6,7 @@ ghost use Rattle.wire.specs.Sums.{member};
 ghost use Rattle.fingerprint_bodies.specs.Body.{kind};
 ghost use Rattle.fingerprint_parameters.specs.Code.{Marked};
 ghost use Rattle.fingerprint.specs.Code as code;
-ghost use Rattle.fingerprint.specs.Code.{meant, note_of, HeaderFound, HeaderAs, GivesHeader, BodyAsked, StepAs, SurveyAs};
+ghost use Rattle.fingerprint.specs.Code.{meant, kind_at, note_of, HeaderFound, HeaderAs, GivesHeader, BodyAsked, StepAs, SurveyAs};
 
 use fingerprint_bodies::Prefix;
 use fingerprint_lists::Span;
@@ -50,6 +50,22 @@ impl Kind {
         ensures { result ≡ code.slot (meant self) }
     {
         self as usize
+    }
+
+    // The kind of a place in a survey's bodies, and of any other as of the last.
+    fn at(place: usize) -> Kind
+        ensures { meant result ≡ kind_at place }
+    {
+        match place {
+            0 => Kind::Name,
+            1 => Kind::Groups,
+            2 => Kind::Algorithms,
+            3 => Kind::Protocols,
+            4 => Kind::Versions,
+            5 => Kind::Shares,
+            6 => Kind::Parameters,
+            _ => Kind::Other,
+        }
     }
 }
 
@@ -101,6 +117,13 @@ pub fn ask_body(kind: Kind, body: &[u8], ids: &mut [u64; 64]) -> Result<usize, R
         Kind::Other => (),
     }
     Ok(0)
+}
+
+// The same by the kind's place in a survey's bodies, which may be any number.
+pub fn ask_body_at(place: usize, body: &[u8], ids: &mut [u64; 64]) -> Result<usize, Refusal>
+    ensures { BodyAsked (kind_at place) body.now result ids.old ids.new }
+{
+    ask_body(Kind::at(place), body, ids)
 }
 
 // The types before an extension, and the marks of these: a type is looked up among them only where one has the same mark. Whoever has no
