@@ -6,7 +6,7 @@ use native.Mathlib.Omega.{arith}
 use borrow.Author.Tests.{ne_eqb, eqb-true}
 use lib.Dec.{eqb}
 use Rattle.fingerprint_bodies.specs.Body.{Kind, name, groups, algorithms, protocols, versions, shares, parameters, other, kind}
-use Rattle.fingerprint.specs.Code.{slot}
+use Rattle.fingerprint.specs.Code.{slot, kind_at}
 
 pub kind-other : (t : ℕ) → (t ≡ 0x0000 → ⊥) → (t ≡ 0x000a → ⊥) → (t ≡ 0x000d → ⊥) → (t ≡ 0x0010 → ⊥) → (t ≡ 0x002b → ⊥) → (t ≡ 0x0033 → ⊥)
     → (t ≡ 0x0039 → ⊥) → kind t ≡ other
@@ -62,17 +62,6 @@ slot_small parameters = omega arith
 slot_small other = omega arith
 
 -- the kind whose place it is
-abbrev pub kind_at : ℕ → Kind
-kind_at n =
-    cond (eqb n 0) name
-    (cond (eqb n 1) groups
-    (cond (eqb n 2) algorithms
-    (cond (eqb n 3) protocols
-    (cond (eqb n 4) versions
-    (cond (eqb n 5) shares
-    (cond (eqb n 6) parameters
-    other))))))
-
 pub kind-at-slot : (k : Kind) → kind_at (slot k) ≡ k
 kind-at-slot name = refl
 kind-at-slot groups = refl

@@ -51,6 +51,7 @@ pub entry_at : (what k : ℕ) (d : List ℕ) → what < 27 → get_or (get_or gr
 unfolding column grammar
 entry_at what k d h = ap (λ (r : List ℕ). get_or r k 0) (get_or-any-default grammar what d [] h)
 
+-- no row stands after the 27
 pub no_row : (what k : ℕ) → 27 ≤ what → column what k ≡ 0
 unfolding column grammar
 no_row what k h = ap (λ (r : List ℕ). get_or r k 0) (get_or-eq_default grammar [] h)

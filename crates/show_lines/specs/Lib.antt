@@ -2,3 +2,4 @@ pub mod Grammar
 pub mod Lines
 pub mod Rows
 pub mod Steps
+pub mod Numbered
