@@ -1,7 +1,7 @@
 -- The words of a line are the parts that `split` gives at each space. Assumes nothing.
 use Rattle.std.specs.List.{slice_get, slice_split, onto_first}
 use Rattle.std.specs.Option.{unwrap_or}
-use Rattle.std.proofs.Common.{◌≡◌, ℕ, zero, suc, ◌+◌, ◌-◌, ◌<◌, ◌≤◌, Bool, true, false, cond, eqb, ltb, List, [], ◌∷◌, length, take, drop, sym, refl, ap, ◌∙◌, ⊎_elim, zero-le, arith, length-drop, take_all, le-ltb, lt-ltb, eq-eqb, ne_eqb}
+use Rattle.std.proofs.Common.{◌≡◌, ℕ, zero, suc, ◌+◌, ◌-◌, ◌<◌, ◌≤◌, Bool, true, false, cond, eqb, ltb, List, [], ◌∷◌, length, take, drop, sym, refl, ap, ◌∙◌, ⊎_elim, zero-le, arith, length-take, length-drop, take_all, le-ltb, lt-ltb, eq-eqb, ne_eqb}
 use lib.Seq.{drop-drop}
 use Rattle.wire.proofs.ListLaws.{lt-or-le}
 use Rattle.script.specs.Scan.{space, distance, find_of}
@@ -87,3 +87,14 @@ operands-count line n =
     (⊎_elim (λ q. rw (lt-ltb (n + 1) l q) (ne_eqb l (n + 1) (λ e. omega arith))) (λ q. rw (le-ltb (n + 1) l q) (eq-eqb l (n + 1) (omega arith))) (lt-or-le (n + 1) l)))
     (λ p. rw (le-ltb n l p) (ne_eqb l (n + 1) (λ e. omega arith)))
     (lt-or-le n l))
+
+-- the first parts tell as much: one more than there are to be
+pub operands_first : (line : List ℕ) (n : ℕ) → eqb (length (take (n + 1 + 1) (parts line))) (n + 1) ≡ has_operands line n
+operands_first line n =
+    let l = length (parts line) in
+    let m = length-take (n + 1 + 1) (parts line) in
+    ⊎_elim
+    (λ p. ap (λ (k : ℕ). eqb k (n + 1)) (omega (arith, m)))
+    (λ p. ne_eqb _ (n + 1) (λ e. omega (arith, m)) ∙ sym (ne_eqb l (n + 1) (λ e. omega arith)))
+    (lt-or-le l (n + 1 + 1))
+    ∙ operands-count line n

@@ -4,7 +4,7 @@ ghost use Rattle.std.specs.Prelude.{◌≡◌, ◌<◌, ◌≤◌, true, length,
 ghost use Rattle.wire.specs.Front.{front};
 ghost use Rattle.script.specs.Scan.{all, found_of, Found};
 ghost use Rattle.script.specs.Decimal.{number_of};
-ghost use Rattle.script.specs.Hex.{digit_of, is_hex, hex_byte, pairs};
+ghost use Rattle.script.specs.Hex.{hex_digit, digit_of, is_hex, hex_byte, pairs};
 ghost use Rattle.script.specs.Piece.{piece_end, is_plain, bytes, text_of, hex_of, times_of, run_of, piece_of, Read};
 
 // A piece of a byte operand that is read: so many bytes at the front of the output, or a file's bytes, which the caller reads.
@@ -106,12 +106,22 @@ pub fn all_plain(text: &[u8]) -> bool
     text.iter().all(|b| is_plain(*b))
 }
 
+// The value of a byte that is a hex digit: its low four bits, and nine more for a letter. Without the ranges of `hex_digit`: nobody can
+// guess which of them the next digit lies in, so a branch on it costs far more than the sum.
+#[tactic(auto, unfolding(crate::specs::Hex::hex_digit, crate::specs::Hex::is_hex))]
+fn digit_value(b: u8) -> u8
+    requires { is_hex b ≡ true }
+    ensures { result ≡ hex_digit b }
+{
+    b % 16 + b / 64 * 9
+}
+
 #[tactic(auto, unfolding(crate::specs::Hex::hex_byte, crate::specs::Hex::is_hex))]
 fn hex_byte(high: u8, low: u8) -> u8
     requires { (is_hex high ≡ true) × (is_hex low ≡ true) }
     ensures { result ≡ hex_byte high low }
 {
-    hex_digit(high).unwrap() * 16 + hex_digit(low).unwrap()
+    digit_value(high) * 16 + digit_value(low)
 }
 
 // The bytes themselves, where they fit.

@@ -10,9 +10,11 @@ pub fn word_at(line: &[u8], k: usize) -> &[u8]
     line.split(|b| *b == b' ').nth(k).unwrap_or(&[])
 }
 
-// Whether the line has just so many operands after its command. So many are a u8, to which one can be added.
+// Whether the line has just so many operands after its command. So many are a u8, to which one can be added. Nothing is read after the
+// first operand too many.
 pub fn has_operands(line: &[u8], count: u8) -> bool
     ensures { result ≡ has_operands line.now count }
 {
-    line.split(|b| *b == b' ').count() == usize::from(count) + 1
+    let words = usize::from(count) + 1;
+    line.split(|b| *b == b' ').take(words + 1).count() == words
 }
