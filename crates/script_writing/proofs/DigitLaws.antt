@@ -2,11 +2,13 @@
 -- Assumes nothing.
 use Prim.Native.Nat.{ℕ, zero, suc, ◌+◌, ◌*◌, ◌-◌, ◌/◌, ◌%◌, ◌^◌, ◌≤◌, ◌<◌}
 use mathlib.Core.Path.{◌≡◌, refl, sym, ap, ◌∙◌}
+use mathlib.Core.Bool.{Bool, true, false, cond}
 use mathlib.Core.Logic.{⊎_elim}
 use mathlib.Core.List.{List, [], ◌∷◌, ◌++◌, map, append_assoc, append-nil, map-append}
 use native.Mathlib.Nat.{not-suc-le-zero, le_refl, div-lt_iff_lt-mul, le-div_iff_mul-le, pow-suc, mul_assoc, one-le-pow, mul-le-mul_right}
 use native.Mathlib.Numerals.{unary_clauses}
 use native.Mathlib.Omega.{arith}
+use lib.Dec.{ltb}
 use lib.ListN.{length, take, drop, set, length-append, length-map, length-set, length-drop}
 use lib.Seq.{drop-length, length-take-le, take_at, drop_at, drop-drop}
 use borrow.Author.Tests.{lt-ltb, le-ltb}
@@ -33,6 +35,15 @@ places-small base n v h = rw (lt-ltb v base h)
 pub places-large : (base n v : ℕ) → base ≤ v → places base (suc n) v ≡ suc (places base n (v / base))
 unfolding places
 places-large base n v h = rw (le-ltb v base h)
+
+pub places-most : (base n v : ℕ) → places base n v ≤ n
+unfolding places
+places-most base zero v = omega arith
+places-most base (suc n) v = go (ltb v base) (places-most base n (v / base))
+  where
+    go : (t : Bool) → places base n (v / base) ≤ n → cond t 1 (suc (places base n (v / base))) ≤ suc n
+    go true h = omega arith
+    go false h = omega arith
 
 -- the logarithm is one less
 pub places-log : (base n v k : ℕ) → 0 < base → k + 1 ≤ n → base ^ k ≤ v → v < base * base ^ k → k + 1 ≡ places base n v
@@ -67,9 +78,17 @@ pub decimal-width-is : (v : ℕ) → v < 2 ^ 64 → places 10 64 v ≡ decimal_w
 unfolding decimal_width
 decimal-width-is v h = places-enough 10 64 20 v (omega arith) (omega arith) (omega arith) (omega arith) (omega arith)
 
+pub decimal-width-most : (v : ℕ) → decimal_width v ≤ 20
+unfolding decimal_width
+decimal-width-most v = places-most 10 20 v
+
 pub hex-width-is : (v : ℕ) → v < 2 ^ 64 → places 16 64 v ≡ hex_width v
 unfolding hex_width
 hex-width-is v h = places-enough 16 64 16 v (omega arith) (omega arith) (omega arith) (omega arith) (omega arith)
+
+pub hex-width-most : (v : ℕ) → hex_width v ≤ 16
+unfolding hex_width
+hex-width-most v = places-most 16 16 v
 
 -- ---- the low digits, each by its letter
 

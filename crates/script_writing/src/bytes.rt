@@ -5,7 +5,7 @@ ghost use Rattle.wire.specs.Front.{front};
 ghost use Rattle.script_writing.specs.Hex.{hex_pair, hex_text};
 ghost use Rattle.script_writing.specs.Shown.{Written, trailing_run, run_text, joined_text, shown_text};
 
-use crate::numbers::{fill_digits, put_decimal, width};
+use crate::numbers::{decimal_width, fill_digits, put_decimal};
 use crate::texts::put_text;
 
 // Writes the two digits of a byte.
@@ -51,7 +51,7 @@ fn trailing_run(bytes: &[u8]) -> usize
 fn put_run(out: &mut [u8], times: u64, byte: u8) -> usize
     ensures { Written (run_text times byte) result out.old out.new }
 {
-    let width = width::<10>(times);
+    let width = decimal_width(times);
     if out.len() < width + 3 {
         return 0;
     }
@@ -65,7 +65,7 @@ fn put_run(out: &mut [u8], times: u64, byte: u8) -> usize
 fn put_joined(out: &mut [u8], head: &[u8], times: u64, byte: u8) -> usize
     ensures { Written (joined_text head.now (run_text times byte)) result out.old out.new }
 {
-    let after = width::<10>(times) + 4;
+    let after = decimal_width(times) + 4;
     if out.len() < after {
         return 0;
     }

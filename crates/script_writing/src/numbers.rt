@@ -3,8 +3,8 @@ ghost use Rattle.std.specs.Prelude.{◌≡◌, ◌∷◌, ◌≤◌, ◌<◌, le
 ghost use Rattle.wire.specs.Numbers.{digits};
 ghost use Rattle.script.specs.Scan.{space};
 ghost use Rattle.script_writing.specs.Digits.{places};
-ghost use Rattle.script_writing.specs.Decimal.{decimal_text};
-ghost use Rattle.script_writing.specs.Hex.{hex_letter, hex_digits, word_text, id_text};
+ghost use Rattle.script_writing.specs.Decimal.{decimal_width, decimal_text};
+ghost use Rattle.script_writing.specs.Hex.{hex_letter, hex_width, hex_digits, word_text, id_text};
 ghost use Rattle.script_writing.specs.Shown.{Written};
 
 // How many digits a number has in a base; 0 has one.
@@ -17,6 +17,20 @@ pub fn width<const BASE: u64>(n: u64) -> usize
         Some(k) => k as usize + 1,
         None => 1,
     }
+}
+
+// How many decimal digits a number has.
+pub fn decimal_width(n: u64) -> usize
+    ensures { (result ≡ decimal_width n) × (result ≤ 20) }
+{
+    width::<10>(n)
+}
+
+// How many hex digits a number has.
+fn hex_width(v: u64) -> usize
+    ensures { (result ≡ hex_width v) × (result ≤ 16) }
+{
+    width::<16>(v)
 }
 
 // Fills the part with the number's low digits in a base up to 16, the lowest one last.
@@ -36,7 +50,7 @@ pub(crate) fn fill_digits<const BASE: u64>(part: &mut [u8], n: u64)
 pub fn put_decimal(out: &mut [u8], n: u64) -> usize
     ensures { Written (decimal_text n) result out.old out.new }
 {
-    let width = width::<10>(n);
+    let width = decimal_width(n);
     if out.len() < width {
         return 0;
     }
@@ -45,7 +59,7 @@ pub fn put_decimal(out: &mut [u8], n: u64) -> usize
 }
 
 // The digit that writes a value below 16.
-fn hex_letter(v: u8) -> u8
+pub fn hex_letter(v: u8) -> u8
     requires { v < 16 }
     ensures { result ≡ hex_letter v }
 {
@@ -76,5 +90,5 @@ pub fn put_word(out: &mut [u8], v: u16) -> usize
 pub fn put_id(out: &mut [u8], v: u64) -> usize
     ensures { Written (id_text v) result out.old out.new }
 {
-    put_digits(out, width::<16>(v), v)
+    put_digits(out, hex_width(v), v)
 }

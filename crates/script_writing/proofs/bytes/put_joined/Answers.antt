@@ -5,18 +5,12 @@ use native.Mathlib.Omega.{arith}
 use lib.ListN.{length, length-take, length-drop, length-set}
 use Rattle.wire.specs.Front.{Put}
 use Rattle.script.specs.Scan.{plus}
-use Rattle.script_writing.specs.Decimal.{decimal_width}
 use Rattle.script_writing.specs.Hex.{hex_text}
 use Rattle.script_writing.specs.Shown.{run_text, joined_text}
-use Rattle.script_writing.proofs.DigitLaws.{decimal-width-is}
 use Rattle.script_writing.proofs.HexLaws.{length-hex_text}
 use Rattle.script_writing.proofs.ShownLaws.{written, not_written, was-written, stored-lent, length-run_text, length-joined-run}
 use Rattle.script_writing.proofs.bytes.put_joined.Goals as goal
-use Rattle.script_writing.proofs.bytes.put_joined.Goals.{After-put_hex-at, After-width-after}
-
--- the width of the run's number
-width-is : (c : After-width-after) → c.width-after.result ≡ decimal_width c.args.times
-width-is c = c.width-after.ensures.is ∙ decimal-width-is c.args.times (omega arith)
+use Rattle.script_writing.proofs.bytes.put_joined.Goals.{After-put_hex-at}
 
 -- the hex was written
 hex : (c : After-put_hex-at)
@@ -38,8 +32,8 @@ returns-then-out-after c =
     not_written (joined_text start.args.head.now (run_text start.args.times start.args.byte)) start.args.out.now
     (omega (
       arith,
-      length-joined-run start.args.head.now start.args.times start.args.byte c.width-after.result
-          (width-is (goal.at.returns-then-out-after c).After-width-after),
+      length-joined-run start.args.head.now start.args.times start.args.byte c.decimal_width-after.result
+          c.decimal_width-after.ensures.0,
       c.if-out-after.true,
     ))
 
@@ -49,8 +43,8 @@ returns-then-out-after-2 c =
     not_written (joined_text start.args.head.now (run_text start.args.times start.args.byte)) start.args.out.now
     (omega (
       arith,
-      length-joined-run start.args.head.now start.args.times start.args.byte c.width-after.result
-          (width-is (goal.at.returns-then-out-after-2 c).After-width-after),
+      length-joined-run start.args.head.now start.args.times start.args.byte c.decimal_width-after.result
+          c.decimal_width-after.ensures.0,
       c.if-out-after.false,
       c.if-out-after-2.true,
     ))
@@ -71,8 +65,8 @@ returns c =
     let old = args.out.now in
     let h = args.head.now in
     let text = run_text args.times args.byte in
-    let width = c.width-after in
-    let is = width-is (goal.at.returns c).After-width-after in
+    let width = c.decimal_width-after in
+    let is = width.ensures.0 in
     let at = c.put_hex-at.result in
     let run = c.put_run in
     let p = hex (goal.at.returns c).After-put_hex-at in
