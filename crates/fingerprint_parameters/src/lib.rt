@@ -10,6 +10,7 @@ ghost use Rattle.fingerprint_bodies.specs.Forms.{one_parameter, id_of, transport
 ghost use Rattle.fingerprint_parameters.specs.Code.{ParameterAs, short_of, ids_of, Kept, ids_in, AskedIds};
 
 use fingerprint_bodies::{Entries, Entry, Listed};
+use fingerprint_order::Rise;
 use wire::Refusal;
 
 // A parameter, told by its id.
@@ -149,8 +150,9 @@ fn each_among_later(body: &[u8]) -> bool
     true
 }
 
-// No id stands twice in the body, however many there are: sorted, they tell. A hello has room for 8192 at most; of more, each is looked for
-// among those after it. Not inlined: else every body would be asked in a frame that has room for so many ids.
+// No id stands twice in the body, however many there are. A hello has room for 8192 at most: the order of their indices tells, and were it
+// not right, the ids sorted. Of more, each is looked for among those after it. Not inlined: else every body would be asked in a frame that
+// has room for so many ids.
 #[inline(never)]
 pub fn ids_new(body: &[u8]) -> bool
     requires { transport_parameters body.now ≡ some (or_empty (transport_parameters body.now)) }
@@ -159,7 +161,11 @@ pub fn ids_new(body: &[u8]) -> bool
     let mut ids = [0u64; 8192];
     if let Some(n) = read_ids(body, &mut ids) {
         if n <= 8192 {
-            return fingerprint_order::all_new(&mut ids[..n]);
+            return match fingerprint_order::in_order(&ids, n) {
+                Rise::Rising => true,
+                Rise::Twice => false,
+                Rise::Unsorted => fingerprint_order::all_new(&mut ids[..n]),
+            };
         }
     }
     each_among_later(body)

@@ -1,5 +1,7 @@
 -- The loop keeps `Risen`: each id before the pairs that are left is greater than the one before it. Assumes nothing.
 use mathlib.Core.Path.{refl, ap, ◌∙◌}
+use Prim.Native.Nat.{◌+◌, ◌≤◌}
+use lib.ListN.{get_or}
 use native.Mathlib.Omega.{arith}
 use Rattle.std.proofs.lemmas.List.Sorted.{IsNonDecreasingBy-from_sort}
 use Rattle.std.specs.Slice.Iter.{windows_rest, windows_size}
@@ -21,7 +23,7 @@ pub returns-then-pair : goal.returns-then-pair
 returns-then-pair c =
     let sort = c.sort_unstable in
     let p = pair (kept (goal.at.returns-then-pair c).At-loop-pair) c.next.new.self c.next.result c.in-Some.pair c.in-Some.is c.next.ensures.steps in
-    let falls = rw (p.one, p.two) at c.if-pair.true in
+    let falls : get_or sort.new.self (p.place + 1) 0 ≤ get_or sort.new.self p.place 0 = omega (arith, p.one, p.two, c.if-pair.true) in
     stands-twice c.args.ids.now sort.new.self sort.ensures.permutation (IsNonDecreasingBy-from_sort (λ x. x) _ sort.ensures.sorted) p.place (omega (arith, p.inside)) falls
 
 pub loop-pair-preserved : goal.loop-pair-preserved
