@@ -150,9 +150,9 @@ fn each_among_later(body: &[u8]) -> bool
     true
 }
 
-// No id stands twice in the body, however many there are. A hello has room for 8192 at most: the order of their indices tells, and were it
-// not right, the ids sorted. Of more, each is looked for among those after it. Not inlined: else every body would be asked in a frame that
-// has room for so many ids.
+// No id stands twice in the body, however many there are. A hello has room for 8192 at most: the order of their indices tells, or where it
+// says nothing, the ids sorted. Of more, each is looked for among those after it. Not inlined: else every body would be asked in a frame
+// that has room for so many ids.
 #[inline(never)]
 pub fn ids_new(body: &[u8]) -> bool
     requires { transport_parameters body.now ≡ some (or_empty (transport_parameters body.now)) }

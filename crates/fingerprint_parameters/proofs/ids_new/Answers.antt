@@ -1,7 +1,9 @@
 -- The ids of the body stand at the front of the array, so what these say the body's say. Assumes nothing.
 use Prim.Native.Nat.{ℕ, ◌≤◌}
-use mathlib.Core.Path.{◌≡◌, sym}
+use mathlib.Core.Path.{◌≡◌, sym, ap, ◌∙◌}
+use mathlib.Core.List.{List}
 use lib.ListN.{length, replicate, length-replicate, take}
+use Rattle.wire.specs.Sums.{distinct}
 use Rattle.fingerprint_parameters.specs.Code.{ids_in}
 use Rattle.fingerprint_parameters.proofs.AskedLaws.{kept-all}
 use Rattle.fingerprint_parameters.proofs.ids_new.Goals as goal
@@ -19,4 +21,4 @@ pub returns-in-Twice : goal.returns-in-Twice
 returns-in-Twice c = sym (rw (c.in-Twice.is, at-front (goal.at.returns-in-Twice c).Then-n-le8192) at c.in_order.ensures)
 
 pub returns-in-Unsorted : goal.returns-in-Unsorted
-returns-in-Unsorted c = rw (at-front (goal.at.returns-in-Unsorted c).Then-n-le8192) at c.all_new.ensures
+returns-in-Unsorted c = c.all_new.ensures ∙ ap (λ (l : List ℕ). distinct l) (at-front (goal.at.returns-in-Unsorted c).Then-n-le8192)
