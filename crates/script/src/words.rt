@@ -11,7 +11,9 @@ pub fn word_at(line: &[u8], k: usize) -> &[u8]
 }
 
 // Whether the line has just so many operands after its command. So many are a u8, to which one can be added. Nothing is read after the
-// first operand too many.
+// first operand too many. Not inlined: a caller's large arrays are cleared where it begins and again where they are made, and only with
+// little code in between does LLVM leave the first out.
+#[inline(never)]
 pub fn has_operands(line: &[u8], count: u8) -> bool
     ensures { result ≡ has_operands line.now count }
 {
