@@ -70,7 +70,7 @@ fn put_in_order(types: &mut [ExtType], shuffled: bool, tape: &[u8], at: usize) -
 }
 
 // The block of extensions with its length before it, which is written last, when they stand and it is known: so no `put_vector`. The types
-// are the profile's array, copied whole and then cut: that is two moves, and the listed ones alone by `copy_from_slice` a call of `memmove`.
+// are the profile's array, copied whole and then cut, which is two moves: `copy_from_slice` of the listed ones would be a call of `memmove`.
 fn put_block(out: &mut [u8], profile: &Profile, name: &[u8], scid: &[u8], tape: &[u8]) -> Wrote
     requires { BlockRoom profile.now name.now scid.now tape.now (length out.old) }
     ensures { Puts (counted_block (profile_of profile.now) name.now scid.now tape.now) result out.old out.new }

