@@ -32,8 +32,9 @@ pub fn command(
     answer_call(rt, call, value, kept, last, out)
 }
 
-// Reads the bytes that the command reads. Here and in `answer_filled` a buffer is what the function begins with: one that stands after an
-// early return is cleared twice, at the entry and in its place.
+// Reads the bytes that the command reads. Neither this nor `answer_filled` is inlined, and each begins with its buffers: a function's arrays
+// are cleared where it begins, and those that it makes later, after it may have returned, once more where they are made.
+#[inline(never)]
 fn answer_call(
     rt: &impl Files,
     call: Call<'_>,
@@ -50,6 +51,7 @@ fn answer_call(
 }
 
 // Reads the buffers that the command fills.
+#[inline(never)]
 fn answer_filled(
     rt: &impl Files,
     call: Call<'_>,
