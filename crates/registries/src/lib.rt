@@ -5,14 +5,26 @@
 mod suites;
 mod tables;
 
-ghost use Rattle.std.specs.Prelude.{cond};
+ghost use Rattle.std.specs.Prelude.{◌≡◌, ◌≤◌, cond, length};
 ghost use Rattle.script_writing.specs.Shown.{Written};
 ghost use Rattle.registries.specs.Names.{numbers_of, names_of, name_of, Tabled};
+ghost use Rattle.registries.specs.Registry.{place_of};
 
 use script::words::word_at;
 use script_writing::texts::put_text;
 use suites::SUITES;
 use tables::{ALGORITHMS, GROUPS, PARAMETERS, TYPES, VERSIONS};
+
+// The place of a number in a table; the table's length where it is not there. No Option: a name's definition takes the same place, and asks
+// whether it lies in the table (specs/Registry.antt, `name_in`).
+pub fn place_of(numbers: &[u64], v: u64) -> usize
+    ensures { (result ≡ place_of v numbers.now) × (result ≤ length numbers.now) }
+{
+    numbers
+        .iter()
+        .position(|n| *n == v)
+        .unwrap_or(numbers.len())
+}
 
 // The registries that name numbers.
 #[derive(Clone, Copy, PartialEq, Eq, Debug)]

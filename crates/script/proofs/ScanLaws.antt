@@ -186,3 +186,10 @@ position-none b s e =
         → length s ≤ position_or_len (λ x. eqb x b) s
     go true p h = cc
     go false p h = ltb-false (position_or_len (λ x. eqb x b) s) (length s) p
+
+-- the place, or the length where there is none
+pub position-or : (b : ℕ) (s : List ℕ) → unwrap_or (position (λ x. eqb x b) s) (length s) ≡ distance b s
+position-or b s =
+    rw (position_is b s)
+    (⊎_elim (λ p. rw (lt-ltb (distance b s) (length s) p)) (λ q. rw (le-ltb (distance b s) (length s) q) (omega (arith, distance-le b s)))
+    (lt-or-le (distance b s) (length s)))
