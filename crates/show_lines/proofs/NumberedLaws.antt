@@ -100,7 +100,7 @@ module _ (c : Cursor) where
   alike : (A : Type 0) (f : Cursor → A) → (27 ≤ c.what → f (rest c) ≡ f c) → f (known c) ≡ f c
   alike A f other = known-is (λ (d : Cursor). f d ≡ f c) c refl other
 
-  part-alike : (n : ℕ) → part_end n (known c) ≡ part_end n c
+  pub part-alike : (n : ℕ) → part_end n (known c) ≡ part_end n c
   part-alike n = alike ℕ (part_end n) (λ k. bare-part (rest c) bare-25 n ∙ sym (bare-part c (bare c.what k) n))
 
   pub line-alike : (h : List ℕ) → line_at h (known c) ≡ line_at h c

@@ -2,7 +2,7 @@
 // of the hello, as after the extensions.
 ghost use Rattle.std.specs.Prelude.{◌≡◌, ◌≤◌, ◌<◌, length};
 ghost use Rattle.show_lines.specs.Lines as specs;
-ghost use Rattle.show_lines.specs.Lines.{line_at, Ready, Reaches};
+ghost use Rattle.show_lines.specs.Lines.{part_end, line_at, Ready, Reaches};
 ghost use Rattle.show_lines.specs.Rows.{kind_number, cursor_of};
 ghost use Rattle.show_lines.specs.Numbered.{known_number, known, cursor_by};
 
@@ -65,6 +65,13 @@ fn by_kind(c: Cursor) -> cursor::Cursor
         body: c.body,
         block: c.block,
     }
+}
+
+// The end of the part in which the line at the cursor stands.
+pub fn part_end(hello: &[u8], c: Cursor) -> usize
+    ensures { result ≡ part_end (length hello.now) (cursor_by c) }
+{
+    cursor::part_end(hello, by_kind(c))
 }
 
 // The line at the cursor.
