@@ -1,11 +1,13 @@
--- The words of a line are the parts that `split` gives at each space. Assumes nothing.
+-- The words of a line are the parts that `split` gives at each space, and stand one after the other. Assumes nothing.
+use Rattle.std.specs.Prelude.{Option, Some, None}
 use Rattle.std.specs.List.{slice_get, slice_split, onto_first}
 use Rattle.std.specs.Option.{unwrap_or}
 use Rattle.std.proofs.Common.{◌≡◌, ℕ, zero, suc, ◌+◌, ◌-◌, ◌<◌, ◌≤◌, Bool, true, false, cond, eqb, ltb, List, [], ◌∷◌, length, take, drop, sym, refl, ap, ◌∙◌, ⊎_elim, zero-le, arith, length-take, length-drop, take_all, le-ltb, lt-ltb, eq-eqb, ne_eqb}
 use lib.Seq.{drop-drop}
 use Rattle.wire.proofs.ListLaws.{lt-or-le}
-use Rattle.script.specs.Scan.{space, distance, find_of}
+use Rattle.script.specs.Scan.{space, distance, find_of, found_of}
 use Rattle.script.specs.Words.{word_from, word_of, word_text, is_there, has_operands}
+use Rattle.script.proofs.ScanLaws.{place-some, place-none}
 
 -- ---- the first part, which ends at the first such byte
 
@@ -98,3 +100,41 @@ operands_first line n =
     (λ p. ne_eqb _ (n + 1) (λ e. omega (arith, m)) ∙ sym (ne_eqb l (n + 1) (λ e. omega arith)))
     (lt-or-le l (n + 1 + 1))
     ∙ operands-count line n
+
+-- ---- the words by their places, one more at a time
+
+no_more : (line : List ℕ) (left at : ℕ) → 0 < left → length line ≤ find_of line at space → word_from line left at ≡ None
+unfolding word_from
+no_more line zero at h l = absurd (omega arith)
+no_more line (suc n) at h l = rw (le-ltb (find_of line at space) (length line) l)
+
+one_more : (line : List ℕ) (left at : ℕ) → 0 < left → find_of line at space < length line → word_from line left at ≡ word_from line (left - 1) (find_of line at space + 1)
+unfolding word_from
+one_more line zero at h l = absurd (omega arith)
+one_more line (suc n) at h l = let e : suc n - 1 ≡ n = omega arith in rw (lt-ltb (find_of line at space) (length line) l, e)
+
+-- a word begins at `at` after so many that are passed; the word asked for has k before it
+pub record Passing (line : List ℕ) (k passed at : ℕ) : Type 0 where
+  pub inside : at ≤ length line
+  pub rest : word_from line (k - passed) at ≡ word_of line k
+
+pub starts : (line : List ℕ) (k : ℕ) → Passing line k 0 0
+unfolding word_of
+starts line k = let e : k - 0 ≡ k = omega arith in record { inside = zero-le; rest = rw e refl }
+
+module _ (line : List ℕ) (k passed at : ℕ) (p : Passing line k passed at) where
+  pub misses : passed < k → ◌≡◌ {A = Option ℕ} None (found_of line at space) → None ≡ word_of line k
+  misses h e = sym (no_more line (k - passed) at (omega arith) (place-none line at space e)) ∙ p.rest
+
+  pub goes_on : (n : ℕ) → passed < k → Some n ≡ found_of line at space → Passing line k (passed + 1) (n + 1)
+  goes_on n h e =
+      let q = place-some line at space n e in
+      let less : k - (passed + 1) ≡ k - passed - 1 = omega arith in
+      record {
+        inside = omega (arith, q.1);
+        rest = rw (less, q.0) (sym (one_more line (k - passed) at (omega arith) (omega (arith, q.0, q.1))) ∙ p.rest);
+      }
+
+  pub stands : (end : ℕ) → k ≤ passed → end ≡ find_of line at space → Some (record { start = at; end = end }) ≡ word_of line k
+  unfolding word_from
+  stands end h e = let z : k - passed ≡ 0 = omega arith in rw e (rw z at p.rest)

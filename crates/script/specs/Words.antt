@@ -2,11 +2,11 @@
 use Rattle.std.specs.Prelude.{ℕ, zero, suc, ◌+◌, ◌-◌, Bool, cond, not, ◌&&◌, List, [], length, take, drop, nat_lt, Option, Some, None}
 use Rattle.std.specs.Option.{is_some}
 use Rattle.script.specs.Scan.{space, find_of}
+use Rattle.script.specs.declared.words.Word as code
 
 -- where a word of a line stands
-pub record Word : Type 0 where
-  pub start : ℕ
-  pub end : ℕ
+abbrev pub Word : Type 0
+Word = code.Word
 
 -- the word with k words before it, of those from a place on: each ends at the next space or at the line's end
 unfoldable pub word_from : List ℕ → ℕ → ℕ → Option Word

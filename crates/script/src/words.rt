@@ -1,6 +1,28 @@
 // Lines: a command and its operands, parted by single spaces.
 ghost use Rattle.script.specs.Words.{word_of, word_text, has_operands};
-ghost use Rattle.std.specs.Prelude.{◌≡◌};
+ghost use Rattle.std.specs.Prelude.{◌≡◌, ◌≤◌, length, IfSome};
+
+use crate::reading::find;
+
+// Where a word of a line stands.
+#[derive(Clone, Copy, PartialEq, Eq, Debug)]
+pub struct Word {
+    pub start: usize,
+    pub end: usize,
+}
+
+// Where the word stands that has k words before it.
+pub fn find_word(line: &[u8], k: usize) -> Option<Word>
+    ensures is { result ≡ word_of line.now k }
+    ensures inside { IfSome result (λ w. (w.start ≤ w.end) × (w.end ≤ length line.now)) }
+{
+    let mut start = 0;
+    for _ in 0..k {
+        start = find(line, start, b' ')? + 1;
+    }
+    let end = find(line, start, b' ').unwrap_or(line.len());
+    Some(Word { start, end })
+}
 
 // The bytes of the word that has k words before it; none where there is no such word. No Option: a word without bytes is no command, no number
 // and no piece either.
