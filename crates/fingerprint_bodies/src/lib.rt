@@ -171,6 +171,7 @@ impl Listed for Word {
 }
 
 // A name, told by its length.
+#[derive(Clone, Copy)]
 pub struct Name;
 
 impl Listed for Name {
@@ -188,6 +189,7 @@ impl Listed for Name {
 }
 
 // A key share, told by its group.
+#[derive(Clone, Copy)]
 pub struct Share;
 
 impl Listed for Share {

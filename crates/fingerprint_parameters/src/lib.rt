@@ -14,6 +14,7 @@ use fingerprint_order::Rise;
 use wire::Refusal;
 
 // A parameter, told by its id.
+#[derive(Clone, Copy)]
 pub struct Parameter;
 
 impl Listed for Parameter {
