@@ -40,11 +40,15 @@ pub fn parse_clienthello(hello: &[u8]) -> Result<Fingerprint, Refusal>
     Ok(report(hello, head, found, types, ids))
 }
 
-// The refusal alone, none where the hello is accepted: no report is built.
+// The refusal alone, none where the hello is accepted: no report is built. Not by `survey`, for which the arrays would be cleared before the
+// head is read.
 pub fn refusal(hello: &[u8]) -> Option<Refusal>
     ensures { refusal_number result ≡ number_of (read hello.now) }
 {
-    survey(hello, &mut [0; 64], &mut [0; 64]).err()
+    match read_head(hello) {
+        Ok(head) => survey_block(hello, head.block, &mut [0; 64], &mut [0; 64]).err(),
+        Err(refusal) => Some(refusal),
+    }
 }
 
 // The name's part of the hello, or the default where the hello is refused or nameless.
@@ -64,8 +68,11 @@ pub fn name_or<'a>(hello: &'a [u8], default: &'a [u8]) -> &'a [u8]
 pub fn extension_set(hello: &[u8]) -> Types
     ensures { result ≡ types_of (extension_set (read hello.now)) }
 {
+    let Ok(head) = read_head(hello) else {
+        return no_types();
+    };
     let mut types = [0; 64];
-    let Ok((_, found)) = survey(hello, &mut types, &mut [0; 64]) else {
+    let Ok(found) = survey_block(hello, head.block, &mut types, &mut [0; 64]) else {
         return no_types();
     };
     let count = found.count;
